@@ -1,0 +1,189 @@
+-- The joining law: the join's kept parameters and records are the headers' own, raised.
+use Prim.Native.Nat.{ℕ, suc, _+_, _≤_}
+use native.Mathlib.Omega.{arith}
+use native.Mathlib.Nat.{add-assoc, add-zero, zero-add}
+use mathlib.Core.Path.{_≡_, refl, sym, ap, ap₂, subst, _∙_}
+use mathlib.Core.Bool.{Bool, true, false, _&&_}
+use mathlib.Core.List.{List, [], _∷_, _++_, map, map-append, append-assoc}
+use lib.ListN.{length, length-append, length-map}
+use Rattle.octets.specs.Fold.{folded}
+use Rattle.grammar.specs.Link.{Link, Param}
+use Rattle.grammar.specs.Grammar.{Extra, Apart}
+use Rattle.grammar.specs.Kept.{nameOf, among, isOnce, unless, keepAfter, keptLink, Reading}
+use Rattle.grammar.specs.Records.{linkRecords, recordsOf, paramRecords, paramCount}
+use Rattle.grammar.specs.Join.{
+  Padded, padded, join, raiseLinks, raiseParams, Accepted, joinedLinks, joinedParams, linkSum, paramSum, JoinReads
+}
+use Rattle.grammar.specs.Laws.{Joins}
+use Rattle.grammar.proofs.Raise.{raiseParam, raiseLink}
+use Rattle.grammar.proofs.Joined.{joinedAll, pads, joined-derived}
+use Rattle.grammar.proofs.Spans.{NamesIn, no-names, name-in, AllNamesIn, no-links, link-in, items-inside, slice-within}
+
+-- ---- keeping
+
+-- the text u, then s, then v
+module _ (u s v : List ℕ) where
+  abbrev wide : List ℕ
+  wide = u ++ (s ++ v)
+
+  name-raised : (p : Param) → p .nameTo ≤ length s → nameOf wide (raiseParam (length u) p) ≡ nameOf s p
+  unfolding nameOf
+  name-raised p h = ap folded (slice-within u s v (p .nameFrom) (p .nameTo) h)
+
+  unless-raised : (b : Bool) (p : Param) (ps : List Param)
+      → unless b (raiseParam (length u) p) (map (raiseParam (length u)) ps) ≡ map (raiseParam (length u)) (unless b p ps)
+  unless-raised true p ps = refl
+  unless-raised false p ps = refl
+
+  keep-raised : {ps : List Param} (earlier : List (List ℕ)) → NamesIn (length s) ps
+      → keepAfter wide earlier (map (raiseParam (length u)) ps) ≡ map (raiseParam (length u)) (keepAfter s earlier ps)
+  keep-raised earlier no-names = refl
+  keep-raised earlier (name-in {p = p} {ps = ps} h r) =
+      rw (name-raised p h, keep-raised (nameOf s p ∷ earlier) r)
+      (unless-raised (isOnce (nameOf s p) && among earlier (nameOf s p)) p (keepAfter s (nameOf s p ∷ earlier) ps))
+
+  kept-raised : {ls : List Link} → AllNamesIn (length s) ls
+      → map (keptLink wide) (map (raiseLink (length u)) ls) ≡ map (raiseLink (length u)) (map (keptLink s) ls)
+  kept-raised no-links = refl
+  kept-raised (link-in {l = l} {ls = ls} h r) =
+      ap₂
+      (λ (ps : List Param) (ms : List Link).
+        record { from = length u + l .from; to = length u + l .to; params = ps } ∷ ms)
+      (keep-raised [] h) (kept-raised r)
+
+module _ (extra : Extra) (apart : Apart extra) where
+  -- the links of the join, with their kept parameters
+  joinedKept : ℕ → List (Accepted extra) → List Link
+  joinedKept k [] = []
+  joinedKept k (a ∷ hs) =
+      map (raiseLink (k + length (a .pad .left))) (a .reading) ++ joinedKept (k + length (padded (a .pad)) + 1) hs
+
+  kept-one : (w u v : List ℕ) (a : Accepted extra) (k : ℕ) → w ≡ u ++ a .pad .left ++ (a .pad .header ++ v) → length u ≡ k
+      → map (keptLink w) (map (raiseLink (k + length (a .pad .left))) (a .reads .all))
+      ≡ map (raiseLink (k + length (a .pad .left))) (a .reading)
+  kept-one w u v a k e h =
+      let n : k + length (a .pad .left) ≡ length (u ++ a .pad .left) = omega (arith, length-append u (a .pad .left)) in
+      rw (n, e, a .reads .kept)
+      (kept-raised (u ++ a .pad .left) (a .pad .header) v (items-inside extra (a .pad .header) (a .reads .derived .items)))
+
+  kept-all : (hs : List (Accepted extra)) (w u : List ℕ) (k : ℕ) → w ≡ u ++ join (pads extra apart hs) → length u ≡ k
+      → map (keptLink w) (joinedAll extra apart k hs) ≡ joinedKept k hs
+  unfolding joinedKept
+  kept-all [] w u k e h = refl
+  kept-all (a ∷ []) w u k e h =
+      map-append (keptLink w) (map (raiseLink (k + length (a .pad .left))) (a .reads .all)) []
+      ∙ ap (λ (x : List Link). x ++ []) (kept-one w u (a .pad .right) a k (e ∙ simp append-assoc) h)
+  kept-all (a ∷ b ∷ hs) w u k e h =
+      let J = join (pads extra apart (b ∷ hs)) in
+      let u′ = u ++ padded (a .pad) ++ (44 ∷ []) in
+      let n : length u′ ≡ k + length (padded (a .pad)) + 1 =
+          omega (arith, length-append (u ++ padded (a .pad)) (44 ∷ []), length-append u (padded (a .pad)))
+      in
+      map-append (keptLink w) (map (raiseLink (k + length (a .pad .left))) (a .reads .all)) _
+      ∙ ap₂ (λ (x y : List Link). x ++ y) (kept-one w u (a .pad .right ++ 44 ∷ J) a k (e ∙ simp append-assoc) h)
+      (kept-all (b ∷ hs) w u′ (k + length (padded (a .pad)) + 1) (e ∙ simp append-assoc) n)
+
+-- ---- records
+
+link-records-raised : (k m n : ℕ) (ls : List Link)
+    → linkRecords (m + n) (map (raiseLink k) ls) ≡ raiseLinks k m (linkRecords n ls)
+link-records-raised k m n [] = refl
+link-records-raised k m n (l ∷ ls) =
+    rw (length-map (l .params) (raiseParam k), add-assoc m n (length (l .params)))
+    (ap (λ (x : List ℕ). (k + l .from) ∷ (k + l .to) ∷ (m + n) ∷ length (l .params) ∷ x)
+    (link-records-raised k m (n + length (l .params)) ls))
+
+params-raised : (k : ℕ) (ps : List Param) (rs : List ℕ)
+    → raiseParams k (recordsOf ps ++ rs) ≡ recordsOf (map (raiseParam k) ps) ++ raiseParams k rs
+params-raised k [] rs = refl
+params-raised k (p ∷ ps) rs =
+    ap
+    (λ (x : List ℕ).
+      (k + p .nameFrom) ∷ (k + p .nameTo) ∷ (k + p .valueFrom) ∷ (k + p .valueTo) ∷ p .form ∷ x)
+    (params-raised k ps rs)
+
+param-records-raised : (k : ℕ) (ls : List Link) → paramRecords (map (raiseLink k) ls) ≡ raiseParams k (paramRecords ls)
+param-records-raised k [] = refl
+param-records-raised k (l ∷ ls) =
+    ap (λ (x : List ℕ). recordsOf (map (raiseParam k) (l .params)) ++ x) (param-records-raised k ls)
+    ∙ sym (params-raised k (l .params) (paramRecords ls))
+
+param-count-raised : (k : ℕ) (ls : List Link) → paramCount (map (raiseLink k) ls) ≡ paramCount ls
+param-count-raised k [] = refl
+param-count-raised k (l ∷ ls) = rw (length-map (l .params) (raiseParam k), param-count-raised k ls)
+
+link-records-append : (n : ℕ) (ls ms : List Link)
+    → linkRecords n (ls ++ ms) ≡ linkRecords n ls ++ linkRecords (n + paramCount ls) ms
+link-records-append n [] ms = ap (λ (x : ℕ). linkRecords x ms) (sym (add-zero n))
+link-records-append n (l ∷ ls) ms =
+    rw (← add-assoc n (length (l .params)) (paramCount ls))
+    (ap (λ (x : List ℕ). l .from ∷ l .to ∷ n ∷ length (l .params) ∷ x)
+    (link-records-append (n + length (l .params)) ls ms))
+
+param-records-append : (ls ms : List Link) → paramRecords (ls ++ ms) ≡ paramRecords ls ++ paramRecords ms
+param-records-append [] ms = refl
+param-records-append (l ∷ ls) ms =
+    ap (λ (x : List ℕ). recordsOf (l .params) ++ x) (param-records-append ls ms)
+    ∙ sym (append-assoc (recordsOf (l .params)) (paramRecords ls) (paramRecords ms))
+
+param-count-append : (ls ms : List Link) → paramCount (ls ++ ms) ≡ paramCount ls + paramCount ms
+param-count-append [] ms = sym (zero-add (paramCount ms))
+param-count-append (l ∷ ls) ms = rw (param-count-append ls ms) (sym (add-assoc (length (l .params)) (paramCount ls) (paramCount ms)))
+
+module _ (extra : Extra) (apart : Apart extra) where
+  joined-links : (k m : ℕ) (hs : List (Accepted extra)) → linkRecords m (joinedKept extra apart k hs) ≡ joinedLinks extra k m hs
+  unfolding joinedKept
+  joined-links k m [] = refl
+  joined-links k m (a ∷ hs) =
+      let j = k + length (a .pad .left) in
+      link-records-append m (map (raiseLink j) (a .reading)) _
+      ∙ ap₂ (λ (x y : List ℕ). x ++ y)
+      (ap (λ (n : ℕ). linkRecords n (map (raiseLink j) (a .reading))) (sym (add-zero m))
+      ∙ link-records-raised j m 0 (a .reading))
+      (ap (λ (n : ℕ). linkRecords (m + n) (joinedKept extra apart (k + length (padded (a .pad)) + 1) hs))
+      (param-count-raised j (a .reading))
+      ∙ joined-links (k + length (padded (a .pad)) + 1) (m + paramCount (a .reading)) hs)
+
+  joined-params : (k : ℕ) (hs : List (Accepted extra)) → paramRecords (joinedKept extra apart k hs) ≡ joinedParams extra k hs
+  unfolding joinedKept
+  joined-params k [] = refl
+  joined-params k (a ∷ hs) =
+      let j = k + length (a .pad .left) in
+      param-records-append (map (raiseLink j) (a .reading)) _
+      ∙ ap₂ (λ (x y : List ℕ). x ++ y) (param-records-raised j (a .reading))
+      (joined-params (k + length (padded (a .pad)) + 1) hs)
+
+  joined-link-count : (k : ℕ) (hs : List (Accepted extra)) → length (joinedKept extra apart k hs) ≡ linkSum extra hs
+  unfolding joinedKept
+  joined-link-count k [] = refl
+  joined-link-count k (a ∷ hs) =
+      rw (
+        length-append (map (raiseLink (k + length (a .pad .left))) (a .reading)) (joinedKept extra apart (k + length (padded (a .pad)) + 1) hs),
+        length-map (a .reading) (raiseLink (k + length (a .pad .left))),
+        joined-link-count (k + length (padded (a .pad)) + 1) hs
+      )
+
+  joined-param-count : (k : ℕ) (hs : List (Accepted extra)) → paramCount (joinedKept extra apart k hs) ≡ paramSum extra hs
+  unfolding joinedKept
+  joined-param-count k [] = refl
+  joined-param-count k (a ∷ hs) =
+      rw (
+        param-count-append (map (raiseLink (k + length (a .pad .left))) (a .reading)) (joinedKept extra apart (k + length (padded (a .pad)) + 1) hs),
+        param-count-raised (k + length (a .pad .left)) (a .reading),
+        joined-param-count (k + length (padded (a .pad)) + 1) hs
+      )
+
+pub joins : Joins
+joins extra apart hs =
+    record {
+      links = joinedKept extra apart 0 hs;
+      reads =
+          record {
+            all = joinedAll extra apart 0 hs; derived = joined-derived extra apart hs;
+            kept = sym (kept-all extra apart hs (join (pads extra apart hs)) [] 0 refl refl)
+          };
+      link-records = joined-links extra apart 0 0 hs;
+      param-records = joined-params extra apart 0 hs;
+      link-count = joined-link-count extra apart 0 hs;
+      param-count = joined-param-count extra apart 0 hs
+    }

@@ -1,0 +1,14 @@
+-- The laws of the grammar, and the machine by which they are proved.
+pub mod Machine
+pub mod Classes
+pub mod Rest
+pub mod Forward
+pub mod Backward
+pub mod Exact
+pub mod Editions
+pub mod Readings
+pub mod Prefix
+pub mod Raise
+pub mod Joined
+pub mod Spans
+pub mod Joining

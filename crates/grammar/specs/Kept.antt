@@ -1,0 +1,47 @@
+-- Kept parameters: within one link, of six names only the first is kept.
+use Prim.Native.Nat.{ℕ}
+use mathlib.Core.Bool.{Bool, true, false, _&&_, _||_}
+use mathlib.Core.List.{List, [], _∷_, map}
+use mathlib.Core.Path.{_≡_}
+use lib.Seq.{slice}
+use Rattle.octets.specs.Text.{octets}
+use Rattle.octets.specs.Fold.{folded, same}
+use Rattle.grammar.specs.Link.{Link, Param}
+use Rattle.grammar.specs.Grammar.{Extra, Field}
+
+-- a parameter's name, folded
+unfoldable pub nameOf : List ℕ → Param → List ℕ
+nameOf s p = folded (slice (p .nameFrom) (p .nameTo) s)
+
+-- n is one of the names listed
+abbrev pub among : List (List ℕ) → List ℕ → Bool
+among [] n = false
+among (m ∷ ms) n = same n m || among ms n
+
+-- the names of which a link keeps only the first parameter
+abbrev pub onceNames : List (List ℕ)
+onceNames =
+    octets "rel" ∷ octets "anchor" ∷ octets "media" ∷ octets "title" ∷ octets "title*" ∷ octets "type" ∷ []
+
+unfoldable pub isOnce : List ℕ → Bool
+isOnce n = among onceNames n
+
+abbrev pub unless : Bool → Param → List Param → List Param
+unless true p ps = ps
+unless false p ps = p ∷ ps
+
+-- the parameters that are kept, after parameters of the names `earlier`
+abbrev pub keepAfter : List ℕ → List (List ℕ) → List Param → List Param
+keepAfter s earlier [] = []
+keepAfter s earlier (p ∷ ps) =
+    unless (isOnce (nameOf s p) && among earlier (nameOf s p)) p (keepAfter s (nameOf s p ∷ earlier) ps)
+
+-- the link with its kept parameters
+abbrev pub keptLink : List ℕ → Link → Link
+keptLink s l = record { from = l .from; to = l .to; params = keepAfter s [] (l .params) }
+
+-- A reading of a header: the links that a derivation gives, with their kept parameters.
+pub record Reading (extra : Extra) (s : List ℕ) (K : List Link) : Type 0 where
+  pub all : List Link
+  pub derived : Field extra s all
+  pub kept : K ≡ map (keptLink s) all

@@ -1,0 +1,26 @@
+-- The numbers that a table holds for a list of links.
+use Prim.Native.Nat.{ℕ, _+_}
+use mathlib.Core.List.{List, [], _∷_, _++_}
+use lib.ListN.{length}
+use Rattle.grammar.specs.Link.{Link, Param}
+
+-- how many parameters the links have in all
+abbrev pub paramCount : List Link → ℕ
+paramCount [] = 0
+paramCount (l ∷ ls) = length (l .params) + paramCount ls
+
+-- link records, 4 numbers each: target start, target end, number of the first parameter, count of parameters;
+-- the first link's parameters begin at number n
+abbrev pub linkRecords : ℕ → List Link → List ℕ
+linkRecords n [] = []
+linkRecords n (l ∷ ls) =
+    l .from ∷ l .to ∷ n ∷ length (l .params) ∷ linkRecords (n + length (l .params)) ls
+
+-- parameter records, 5 numbers each: name start, name end, value start, value end, form
+abbrev pub recordsOf : List Param → List ℕ
+recordsOf [] = []
+recordsOf (p ∷ ps) = p .nameFrom ∷ p .nameTo ∷ p .valueFrom ∷ p .valueTo ∷ p .form ∷ recordsOf ps
+
+abbrev pub paramRecords : List Link → List ℕ
+paramRecords [] = []
+paramRecords (l ∷ ls) = recordsOf (l .params) ++ paramRecords ls

@@ -1,0 +1,99 @@
+-- `same_folded` meets its contract. The loop's invariant: what is left of the two texts compares as the whole texts do. Assumes nothing.
+use Prim.Native.Nat.{ℕ, suc, _≤_, _<_, _+_, _-_}
+use mathlib.Core.Bool.{true, false, _&&_}
+use mathlib.Core.List.{List}
+use mathlib.Core.Path.{_≡_, refl, sym, _∙_}
+use native.Mathlib.Numerals.{add-one}
+use native.Mathlib.Omega.{arith}
+use borrow.Author.Needs.{needs}
+use borrow.Author.Tests.{eq-eqb, ne-eqb}
+use lib.Dec.{eqb}
+use lib.ListN.{length, getD, drop, drop-of-length-le}
+use lib.Seq.{drop-cons}
+use Rattle.octets.specs.Fold.{fold, sameFolded}
+use Rattle.octets.proofs.Laws.{same-lengths}
+use Rattle.octets.proofs.compare.same_folded.Statement.{statement}
+use Rattle.octets.proofs.compare.same_folded.Tie as tie
+
+-- the octets below i agree
+record Passed (x y : List ℕ) (i : ℕ) : Type 0 where
+  inside : i ≤ length x
+  lengths : length x ≡ length y
+  rest : sameFolded x y ≡ sameFolded (drop i x) (drop i y)
+
+-- one turn: p and q are the octets at i, folded
+module _ {x y : List ℕ} {i p q : ℕ} (h : Passed x y i) (l : i < length x) (ep : p ≡ fold (getD x i 0)) (eq : q ≡ fold (getD y i 0)) where
+  turn : sameFolded x y ≡ (eqb p q && sameFolded (drop (suc i) x) (drop (suc i) y))
+  unfolding sameFolded
+  turn = h .rest ∙ rw (drop-cons x i 0 l, drop-cons y i 0 (omega arith), ep, eq)
+
+  differ : (p ≡ q → ⊥) → false ≡ sameFolded x y
+  differ n = rw (turn, ne-eqb p q n)
+
+  agree : p ≡ q → Passed x y (i + 1)
+  agree e = record { inside = omega arith; lengths = h .lengths; rest = rw (add-one, turn, eq-eqb p q e) }
+
+through : {x y : List ℕ} {i : ℕ} → Passed x y i → length x ≤ i → true ≡ sameFolded x y
+unfolding sameFolded
+through {x} {y} {i} h l = rw (h .rest, drop-of-length-le x l, drop-of-length-le y {i = i} (omega arith))
+
+abbrev Inv-loop : tie.InvT-loop
+Inv-loop x y i₀ i = Passed x y i
+
+abbrev μ-loop : tie.MeasureT-loop
+μ-loop x y i₀ i = length x - i
+
+returns : tie.Need-returns Inv-loop μ-loop
+returns c = sym (same-lengths _ _ (c .if1 .taken))
+
+loop-holds : tie.Need-loop-holds Inv-loop μ-loop
+loop-holds c = record { inside = omega arith; lengths = c .if1 .left; rest = refl }
+
+shared-slice-read-fold : tie.Need-shared-slice-read-fold Inv-loop μ-loop
+shared-slice-read-fold c = omega arith
+
+fold-requires : tie.Need-fold-requires Inv-loop μ-loop
+fold-requires c κs = search needs
+
+shared-slice-read-fold-2 : tie.Need-shared-slice-read-fold-2 Inv-loop μ-loop
+shared-slice-read-fold-2 c = omega arith
+
+fold-requires-2 : tie.Need-fold-requires-2 Inv-loop μ-loop
+fold-requires-2 c κs = search needs
+
+returns-2 : tie.Need-returns-2 Inv-loop μ-loop
+returns-2 c =
+    differ (c .before .before .before .before .before .before .loop .inv) (omega arith) (c .before .before .before .fold .ensures)
+    (c .before .fold2 .ensures) (c .if2 .taken)
+
+add-i : tie.Need-add-i Inv-loop μ-loop
+add-i c = omega arith
+
+loop-less : tie.Need-loop-less Inv-loop μ-loop
+loop-less c = omega arith
+
+loop-again : tie.Need-loop-again Inv-loop μ-loop
+loop-again c =
+    agree (c .before .before .before .before .before .before .loop .inv) (omega arith) (c .before .before .before .fold .ensures)
+    (c .before .fold2 .ensures) (c .if2 .left)
+
+returns-3 : tie.Need-returns-3 Inv-loop μ-loop
+returns-3 c = through (c .before .loop .inv) (omega arith)
+
+pub same-folded-spec : {M : Type 1} → statement M
+same-folded-spec =
+    tie.close
+    (tie.spec
+    Inv-loop
+    μ-loop
+    returns
+    loop-holds
+    shared-slice-read-fold
+    fold-requires
+    shared-slice-read-fold-2
+    fold-requires-2
+    returns-2
+    add-i
+    loop-less
+    loop-again
+    returns-3)

@@ -1,0 +1,4 @@
+-- What the crate `octets` means by its words.
+pub mod Text
+pub mod Sets
+pub mod Fold

@@ -1,0 +1,38 @@
+// Comparison of texts with A to Z read as a to z.
+ghost use mathlib.Core.Path.{_≡_};
+ghost use Prim.Native.Nat.{_≤_};
+ghost use lib.ListN.{length};
+ghost use lib.Seq.{slice};
+ghost use Rattle.octets.specs.Fold.{fold, sameFolded};
+
+// A to Z become a to z, and no other octet changes.
+pub fn fold(c: u8) -> u8
+    ensures { λ r. ⌜ r ≡ fold c ⌝ }
+{
+    if (b'A' <= c) & (c <= b'Z') { c + 32 } else { c }
+}
+
+// Whether the texts are the same once folded. Texts of different lengths never are, and the first pair that differs decides.
+pub fn same_folded(x: &[u8], y: &[u8]) -> bool
+    ensures { λ r. ⌜ r ≡ sameFolded (now (x .entry)) (now (y .entry)) ⌝ }
+{
+    if x.len() != y.len() {
+        return false;
+    }
+    let mut i = 0;
+    while i < x.len() {
+        if fold(x[i]) != fold(y[i]) {
+            return false;
+        }
+        i += 1;
+    }
+    true
+}
+
+// The same of two parts: of s from a to b, and of t from c to d.
+pub fn same_folded_part(s: &[u8], a: usize, b: usize, t: &[u8], c: usize, d: usize) -> bool
+    requires { ⌜ (a ≤ b) × (b ≤ length (now s)) × (c ≤ d) × (d ≤ length (now t)) ⌝ }
+    ensures { λ r. ⌜ r ≡ sameFolded (slice a b (now (s .entry))) (slice c d (now (t .entry))) ⌝ }
+{
+    same_folded(&s[a..b], &t[c..d])
+}

@@ -1,0 +1,3 @@
+// Octets: the sets that the grammar names, and comparison of texts with A to Z read as a to z.
+pub mod compare;
+pub mod sets;

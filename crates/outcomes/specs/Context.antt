@@ -1,0 +1,45 @@
+-- A link's context: its `anchor` value span as written, else the whole base. The numbers come in the order 1, 5, 8.
+use Prim.Native.Nat.{ℕ, zero, suc, _≤_, _<_}
+use mathlib.Core.Path.{_≡_}
+use mathlib.Core.List.{List, []}
+use mathlib.Core.Option.{Option, none, some}
+use lib.ListN.{length}
+use lib.Seq.{slice}
+use Rattle.octets.specs.Text.{octets}
+use Rattle.grammar.specs.Link.{Param}
+use Rattle.tables.specs.Table.{Table, linkAt}
+use Rattle.tables.specs.Relation.{named}
+use Rattle.outcomes.specs.Number.{done, noSuchLink}
+use Rattle.outcomes.specs.Usable.{Refused, Usable}
+
+-- where the part handed back lies
+pub data Source : Type 0 where
+  of-text of-base : Source
+
+pub record ContextOut : Type 0 where
+  pub number : ℕ
+  pub source : Source
+  pub start : ℕ
+  pub end : ℕ
+
+-- the octets handed back
+abbrev pub handed : List ℕ → List ℕ → ContextOut → List ℕ
+handed text base o = elim (o .source) [ of-text ↦ slice (o .start) (o .end) text | of-base ↦ slice (o .start) (o .end) base ]
+
+-- the table t, link number i and the caller's base
+module _ (t : Table) (base : List ℕ) (i : ℕ) where
+  -- the link's `anchor` parameter, if it has one
+  abbrev pub anchor : Option Param
+  anchor = named (t .text) (octets "anchor") ((linkAt (t .linkSlots) (t .paramSlots) i) .params)
+
+  -- refused, it hands back the base's first zero octets
+  abbrev pub nothing : ℕ → ContextOut
+  nothing n = record { number = n; source = of-base; start = 0; end = 0 }
+
+  pub data Context : ContextOut → Type 0 where
+    refused : {n : ℕ} → Refused t n → Context (nothing n)
+    no-such-link : Usable t → t .linkCount ≤ i → Context (nothing noSuchLink)
+    anchored : {p : Param} → Usable t → i < t .linkCount → anchor ≡ some p
+        → Context (record { number = done; source = of-text; start = p .valueFrom; end = p .valueTo })
+    unanchored : Usable t → i < t .linkCount → anchor ≡ none
+        → Context (record { number = done; source = of-base; start = 0; end = length base })

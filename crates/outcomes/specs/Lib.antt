@@ -1,0 +1,9 @@
+-- What each entry answers, for every input: its numbers, and what every lent slot and octet holds afterwards.
+pub mod Number
+pub mod Usable
+pub mod Read
+pub mod Search
+pub mod Context
+pub mod Value
+pub mod Write
+pub mod Laws

@@ -1,0 +1,1 @@
+// What each entry answers, and that it settles everything.

@@ -1,0 +1,149 @@
+-- Reading back: what is written for a good table is derived again, keeps all its parameters, and means the same.
+use Prim.Native.Nat.{ℕ, suc, _≤_, _<_}
+use native.Mathlib.Omega.{arith}
+use mathlib.Core.Path.{_≡_, refl, sym, ap, ap₂, subst, _∙_}
+use mathlib.Core.Bool.{Bool, true, false, cond, _&&_, not, false≢true}
+use mathlib.Core.List.{List, [], _∷_, map}
+use lib.Dec.{eqb}
+use lib.ListN.{length, getD}
+use lib.Seq.{slice, slice-empty, slice-cons}
+use Rattle.octets.specs.Sets.{isToken, isEscapable}
+use Rattle.octets.specs.Fold.{fold, folded}
+use Rattle.octets.proofs.Laws.{fold-fold, fold-token, token-plain, plain-escapable}
+use Rattle.octets.proofs.Octets.{both}
+use Rattle.grammar.specs.Link.{Link, Param}
+use Rattle.grammar.specs.Grammar.{rfc8288, Token, Run, run-end, run-more}
+use Rattle.grammar.specs.Kept.{nameOf, among, isOnce, unless, keepAfter, keptLink, Reading}
+use Rattle.grammar.specs.Join.{all}
+use Rattle.grammar.proofs.Readings.{one-reading}
+use Rattle.grammar.proofs.Editions.{apart8288}
+use Rattle.tables.specs.Table.{Table}
+use Rattle.tables.specs.Good.{
+  Each, each-none, each-more, onceEach, Span, GoodValue, no-value, token-value, quoted-value, GoodParam, GoodLink, Good
+}
+use Rattle.tables.specs.Meaning.{
+  unescape, unescapeFrom, valueOf, ParamMeaning, paramMeaning, LinkMeaning, linkMeaning, meanings, tableMeanings
+}
+use Rattle.tables.specs.Written.{written}
+use Rattle.tables.specs.Laws.{ReadsBack, ReadBack, WrittenTells}
+use Rattle.tables.proofs.Texts.{run-text, target-text, inside-text, run-le}
+use Rattle.tables.proofs.Back.{NameText, name-text, ParamText, LinkText, LinksBack, links-back}
+
+-- ---- the meanings of a good table can be written and read again
+
+all-mono : {f g : ℕ → Bool} → ((c : ℕ) → f c ≡ true → g c ≡ true) → (xs : List ℕ) → all f xs ≡ true → all g xs ≡ true
+all-mono h [] e = refl
+all-mono {f} h (c ∷ xs) e = let x = both (f c) (all f xs) e in rw (h c (x .0), all-mono h xs (x .1))
+
+all-folded : (xs : List ℕ) → all isToken xs ≡ true → all isToken (folded xs) ≡ true
+all-folded [] e = refl
+all-folded (c ∷ xs) e =
+    let x = both (isToken c) (all isToken xs) e in
+    rw (fold-token c (x .0), all-folded xs (x .1))
+
+folded-folded : (xs : List ℕ) → folded (folded xs) ≡ folded xs
+folded-folded [] = refl
+folded-folded (c ∷ xs) = rw (fold-fold c, folded-folded xs)
+
+module _ (s : List ℕ) where
+  folded-name : {a e : ℕ} → e ≤ length s → Token s a e → NameText (folded (slice a e s))
+  folded-name {a} {e} k n =
+      let whole : Run s isToken a e = run-more (n .first) (n .rest) in
+      let front : slice a e s ≡ getD s a 0 ∷ slice (suc a) e s = slice-cons a e s 0 (run-le s (n .rest)) k in
+      rw front
+      (name-text (all-folded (getD s a 0 ∷ slice (suc a) e s) (rw front at (run-text s k whole)))
+      (folded-folded (getD s a 0 ∷ slice (suc a) e s)))
+
+  value-text : {p : Param} → p .valueTo ≤ length s → GoodValue s p → all isEscapable (valueOf s p) ≡ true
+  unfolding valueOf unescape
+  value-text {p} k (no-value f a b) = rw (f, a, b, slice-empty (p .nameTo) s) refl
+  value-text {p} k (token-value f t) =
+      rw f
+      (all-mono (λ c h. plain-escapable c (token-plain c h)) (slice (p .valueFrom) (p .valueTo) s)
+      (run-text s k (run-more (t .first) (t .rest))))
+  value-text {p} k (quoted-value f t) = rw f (inside-text s k t)
+
+  param-text : {p : Param} → GoodParam s p → ParamText (paramMeaning s p)
+  unfolding nameOf
+  param-text g = record { name = folded-name (g .name-span .inside) (g .name); value = value-text (g .value-span .inside) (g .value) }
+
+  params-text : {ps : List Param} → Each (GoodParam s) ps → Each ParamText (map (paramMeaning s) ps)
+  params-text each-none = each-none
+  params-text (each-more g r) = each-more (param-text g) (params-text r)
+
+  links-text : {ls : List Link} → Each (GoodLink s) ls → Each LinkText (meanings s ls)
+  links-text each-none = each-none
+  links-text (each-more g r) =
+      each-more (record { target = target-text s (g .target-span .inside) (g .target); params = params-text (g .params) })
+      (links-text r)
+
+-- ---- of its parameters all are kept
+
+-- no two of the meanings, nor one of them and one of the names `earlier`, share one of the six names
+onceOf : List (List ℕ) → List ParamMeaning → Bool
+onceOf earlier [] = true
+onceOf earlier (m ∷ ms) = not (isOnce (m .name) && among earlier (m .name)) && onceOf (m .name ∷ earlier) ms
+
+Once : LinkMeaning → Type 0
+Once m = onceOf [] (m .params) ≡ true
+
+module _ (s : List ℕ) where
+  once-meanings : (earlier : List (List ℕ)) (ps : List Param) → onceOf earlier (map (paramMeaning s) ps) ≡ onceEach s earlier ps
+  unfolding onceOf
+  once-meanings earlier [] = refl
+  once-meanings earlier (p ∷ ps) = rw (once-meanings (nameOf s p ∷ earlier) ps)
+
+  all-once : {ls : List Link} → Each (GoodLink s) ls → Each Once (meanings s ls)
+  unfolding Once
+  all-once each-none = each-none
+  all-once (each-more {x = l} g r) = each-more (once-meanings [] (l .params) ∙ g .once) (all-once r)
+
+  keeps : (earlier : List (List ℕ)) (ps : List Param) → onceEach s earlier ps ≡ true → keepAfter s earlier ps ≡ ps
+  keeps earlier [] e = refl
+  keeps earlier (p ∷ ps) e = go (isOnce (nameOf s p) && among earlier (nameOf s p)) e (keeps (nameOf s p ∷ earlier) ps)
+    where
+      go : (b : Bool) → (not b && onceEach s (nameOf s p ∷ earlier) ps) ≡ true
+          → (onceEach s (nameOf s p ∷ earlier) ps ≡ true → keepAfter s (nameOf s p ∷ earlier) ps ≡ ps)
+          → unless b p (keepAfter s (nameOf s p ∷ earlier) ps) ≡ p ∷ ps
+      go true e rest = absurd (false≢true e)
+      go false e rest = ap (λ (x : List Param). p ∷ x) (rest e)
+
+  keeps-all : (ls : List Link) → Each Once (meanings s ls) → map (keptLink s) ls ≡ ls
+  unfolding Once
+  keeps-all [] each-none = refl
+  keeps-all (l ∷ ls) (each-more o r) =
+      ap₂ (λ (ps : List Param) (ms : List Link). record { from = l .from; to = l .to; params = ps } ∷ ms)
+      (keeps [] (l .params) (sym (once-meanings [] (l .params)) ∙ o)) (keeps-all ls r)
+
+pub read-back : ReadBack
+read-back t g =
+    let ms = tableMeanings t in
+    let b = links-back (written ms) 0 (links-text (t .text) (g .links)) (omega arith) refl in
+    let once : Each Once (meanings (written ms) (b .links)) =
+        subst (λ (x : List LinkMeaning). Each Once x) (sym (b .means)) (all-once (t .text) (g .links))
+    in
+    record {
+      links = b .links;
+      reads =
+          record {
+            all = b .links;
+            derived =
+                record {
+                  start = 0; stop = b .stop; end = b .stop; before = run-end; items = b .derived; after = run-end;
+                  whole = b .ended
+                };
+            kept = sym (keeps-all (written ms) (b .links) once)
+          };
+      same-meanings = b .means
+    }
+
+pub written-tells : WrittenTells
+written-tells t u g h e =
+    let a = read-back t g in
+    let b = read-back u h in
+    let w = written (tableMeanings t) in
+    let reads : Reading rfc8288 w (b .links) = subst (λ (x : List ℕ). Reading rfc8288 x (b .links)) (sym e) (b .reads) in
+    let same : meanings w (b .links) ≡ tableMeanings u =
+        subst (λ (x : List ℕ). meanings x (b .links) ≡ tableMeanings u) (sym e) (b .same-meanings)
+    in
+    sym (a .same-meanings) ∙ ap (meanings w) (one-reading rfc8288 apart8288 w (a .links) (b .links) (a .reads) reads) ∙ same

@@ -1,0 +1,57 @@
+-- A good table, clause by clause. It need not come from reading: spans may overlap or stand out of order.
+use Prim.Native.Nat.{ℕ, zero, suc, _+_, _/_, _≤_}
+use mathlib.Core.Path.{_≡_}
+use mathlib.Core.Bool.{Bool, true, _&&_, not}
+use mathlib.Core.List.{List, [], _∷_}
+use lib.ListN.{length}
+use Rattle.grammar.specs.Link.{Link, Param}
+use Rattle.grammar.specs.Grammar.{Token, Inside, Target}
+use Rattle.grammar.specs.Kept.{nameOf, among, isOnce}
+use Rattle.tables.specs.Table.{Table, firstOf, countOf, linksOf}
+
+-- every element of a list
+pub data Each {A : Type 0} (P : A → Type 0) : List A → Type 0 where
+  each-none : Each P []
+  each-more : {x : A} {xs : List A} → P x → Each P xs → Each P (x ∷ xs)
+
+-- of n links from number i on, the first link's parameters begin at number `at`, each later link's where the former's end,
+-- and the last ends at m; the sums are of numbers, so that none wraps
+abbrev pub Follows : List ℕ → ℕ → ℕ → ℕ → ℕ → Type 0
+Follows L i zero at m = at ≡ m
+Follows L i (suc n) at m = (firstOf L i ≡ at) × Follows L (suc i) n (at + countOf L i) m
+
+-- no two of the parameters, nor one of them and one of the names `earlier`, share one of the six names
+abbrev pub onceEach : List ℕ → List (List ℕ) → List Param → Bool
+onceEach s earlier [] = true
+onceEach s earlier (p ∷ ps) =
+    not (isOnce (nameOf s p) && among earlier (nameOf s p)) && onceEach s (nameOf s p ∷ earlier) ps
+
+module _ (s : List ℕ) where
+  -- a span of the text: start at most end, and end at most the text's length
+  pub record Span (a e : ℕ) : Type 0 where
+    pub ordered : a ≤ e
+    pub inside : e ≤ length s
+
+  -- the value obeys the grammar for its form, and with form 0 both value places equal the name end
+  pub data GoodValue (p : Param) : Type 0 where
+    no-value : p .form ≡ 0 → p .valueFrom ≡ p .nameTo → p .valueTo ≡ p .nameTo → GoodValue p
+    token-value : p .form ≡ 1 → Token s (p .valueFrom) (p .valueTo) → GoodValue p
+    quoted-value : p .form ≡ 2 → Inside s (p .valueFrom) (p .valueTo) → GoodValue p
+
+  pub record GoodParam (p : Param) : Type 0 where
+    pub name-span : Span (p .nameFrom) (p .nameTo)
+    pub value-span : Span (p .valueFrom) (p .valueTo)
+    pub name : Token s (p .nameFrom) (p .nameTo)
+    pub value : GoodValue p
+
+  pub record GoodLink (l : Link) : Type 0 where
+    pub target-span : Span (l .from) (l .to)
+    pub target : Target s (l .from) (l .to)
+    pub params : Each GoodParam (l .params)
+    pub once : onceEach s [] (l .params) ≡ true
+
+pub record Good (t : Table) : Type 0 where
+  pub link-room : t .linkCount ≤ length (t .linkSlots) / 4
+  pub param-room : t .paramCount ≤ length (t .paramSlots) / 5
+  pub follows : Follows (t .linkSlots) 0 (t .linkCount) 0 (t .paramCount)
+  pub links : Each (GoodLink (t .text)) (linksOf t)

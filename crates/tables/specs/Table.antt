@@ -1,0 +1,47 @@
+-- A text with its tables and counts, and the links that the tables record.
+use Prim.Native.Nat.{ℕ, zero, suc, _+_, _*_}
+use mathlib.Core.List.{List, [], _∷_}
+use lib.ListN.{getD}
+use Rattle.grammar.specs.Link.{Link, Param}
+
+-- A table as it is lent: the text that its places count in, the slots of both tables, and how many records they hold.
+pub record Table : Type 0 where
+  pub text : List ℕ
+  pub linkSlots : List ℕ
+  pub paramSlots : List ℕ
+  pub linkCount : ℕ
+  pub paramCount : ℕ
+
+-- parameter record number j, 5 slots
+abbrev pub paramAt : List ℕ → ℕ → Param
+paramAt P j =
+    record {
+      nameFrom = getD P (5 * j) 0; nameTo = getD P (5 * j + 1) 0; valueFrom = getD P (5 * j + 2) 0;
+      valueTo = getD P (5 * j + 3) 0; form = getD P (5 * j + 4) 0
+    }
+
+-- n parameter records from number j on
+abbrev pub paramsFrom : List ℕ → ℕ → ℕ → List Param
+paramsFrom P j zero = []
+paramsFrom P j (suc n) = paramAt P j ∷ paramsFrom P (suc j) n
+
+-- of link record number i, 4 slots: number of the first parameter, and count of parameters
+abbrev pub firstOf : List ℕ → ℕ → ℕ
+firstOf L i = getD L (4 * i + 2) 0
+
+abbrev pub countOf : List ℕ → ℕ → ℕ
+countOf L i = getD L (4 * i + 3) 0
+
+-- link number i, with the parameters that the table records for it
+abbrev pub linkAt : List ℕ → List ℕ → ℕ → Link
+linkAt L P i =
+    record { from = getD L (4 * i) 0; to = getD L (4 * i + 1) 0; params = paramsFrom P (firstOf L i) (countOf L i) }
+
+-- n links from number i on
+abbrev pub linksFrom : List ℕ → List ℕ → ℕ → ℕ → List Link
+linksFrom L P i zero = []
+linksFrom L P i (suc n) = linkAt L P i ∷ linksFrom L P (suc i) n
+
+-- the links of a table, in order
+abbrev pub linksOf : Table → List Link
+linksOf t = linksFrom (t .linkSlots) (t .paramSlots) 0 (t .linkCount)
