@@ -8,12 +8,11 @@ use lib.ListN.{length, getD}
 use borrow.Author.Tests.{eqb-true}
 use Rattle.octets.specs.Sets.{isBlank, isToken, isPlain, isTarget, isHex, isEscapable}
 use Rattle.grammar.specs.Link.{Link, Param}
-use Rattle.grammar.specs.Grammar
 use Rattle.grammar.specs.Grammar.{
   Extra, At, In, Run, run-end, run-more, Blanks, inside-end, plain, pair, target-end, octet, triple, isBare
 }
 use Rattle.grammar.specs.Grammar.{
-  Value, token, quoted, wider, Parameter, valued, Parameters, no-more, and-one, OneLink, link, empty, one, last, comma
+  Value, token, quoted, wider, Parameter, valueless, valued, Parameters, no-more, and-one, OneLink, link, empty, one, last, comma
 }
 use Rattle.grammar.proofs.Machine.{
   State, gap, target, percent, hex, after, semi, name, named, equals, bare, wide, quote, escape, dead, Open, next, nameEnd
@@ -128,7 +127,7 @@ module _ (extra : Extra) (s : List ℕ) where
       c = getD s i 0
       begun : {e j : ℕ} {p : Param} → In s isToken i → Run s isToken (suc i) e → NameRest extra s i e e j p
           → Parameter extra s i j p
-      begun t r (no-value bl) = Grammar.bare (record { first = t; rest = r }) bl
+      begun t r (no-value bl) = valueless (record { first = t; rest = r }) bl
       begun t r (a-value bl q cl v) = valued (record { first = t; rest = r }) bl q cl v
       go : {R : List Link} (x : Bool) → isBlank c ≡ x → (y : Bool) → isToken c ≡ y
           → Rest extra s (cond x (semi o) (cond y (name o i) dead)) (suc i) R → Rest extra s (semi o) i R

@@ -8,12 +8,11 @@ use lib.ListN.{length, getD, drop, length-drop}
 use lib.Seq.{drop-cons}
 use Rattle.octets.specs.Sets.{isToken}
 use Rattle.grammar.specs.Link.{Link, Param}
-use Rattle.grammar.specs.Grammar
 use Rattle.grammar.specs.Grammar.{
   Extra, Apart, At, In, Run, run-end, run-more, Blanks, inside-end, plain, pair, target-end, octet, triple
 }
 use Rattle.grammar.specs.Grammar.{
-  Value, token, quoted, wider, Parameter, valued, Parameters, no-more, and-one, link, empty, one, Items, last, comma, Field
+  Value, token, quoted, wider, Parameter, valueless, valued, Parameters, no-more, and-one, link, empty, one, Items, last, comma, Field
 }
 use Rattle.grammar.proofs.Machine.{
   State, gap, target, percent, hex, after, semi, name, named, equals, bare, wide, quote, escape, dead, Open
@@ -74,7 +73,7 @@ module _ (extra : Extra) (s : List ℕ) where
   at-the-end w (r-hex y t k a) = over w (y .inside)
   at-the-end w (r-after {o = o} a) = ap some (after-end o w a)
   at-the-end w (r-semi (run-more b r) p a) = over w (b .inside)
-  at-the-end w (r-semi run-end (Grammar.bare n bl) a) = over w (n .first .inside)
+  at-the-end w (r-semi run-end (valueless n bl) a) = over w (n .first .inside)
   at-the-end w (r-semi run-end (valued n bl q cl v) a) = over w (n .first .inside)
   at-the-end w (r-name (run-more c r) nr a) = over w (c .inside)
   at-the-end w (r-name {o = o} run-end nr a) = ap some (name-end o w nr a)

@@ -7,12 +7,11 @@ use mathlib.Core.List.{List, [], _∷_, reverseAux}
 use lib.ListN.{length, getD}
 use Rattle.octets.specs.Sets.{isBlank, isToken, isPlain, isTarget}
 use Rattle.grammar.specs.Link.{Link, Param}
-use Rattle.grammar.specs.Grammar
 use Rattle.grammar.specs.Grammar.{
   Extra, Apart, At, In, Run, run-end, run-more, Blanks, Inside, inside-end, plain, pair, Target, target-end, octet, triple
 }
 use Rattle.grammar.specs.Grammar.{
-  Value, token, quoted, wider, Parameter, valued, Parameters, no-more, and-one, link, empty, one, Items, last, comma
+  Value, token, quoted, wider, Parameter, valueless, valued, Parameters, no-more, and-one, link, empty, one, Items, last, comma
 }
 use Rattle.grammar.proofs.Classes.{
   token-not-blank, blank-not-token, token-not-quote, plain-not-quote, plain-not-backslash, extra-not-blank, blank-not-extra
@@ -122,7 +121,7 @@ module _ (extra : Extra) (apart : Apart extra) (s : List ℕ) where
   forward h (r-hex y t k a) = rw (y .is) (r-target t k a)
   forward h (r-after {o = o} a) = next-fwd o (after-step h a)
   forward h (r-semi (run-more b r) p a) = rw (b .is) (r-semi r p a)
-  forward h (r-semi run-end (Grammar.bare n bl) a) =
+  forward h (r-semi run-end (valueless n bl) a) =
       rw (token-not-blank _ (n .first .is), n .first .is) (r-name (n .rest) (no-value bl) a)
   forward h (r-semi run-end (valued n bl q cl v) a) =
       rw (token-not-blank _ (n .first .is), n .first .is) (r-name (n .rest) (a-value bl q cl v) a)

@@ -10,10 +10,10 @@ use mathlib.Core.Option.{Option, none, some}
 use lib.Dec.{eqb}
 use lib.ListN.{length, length-append}
 use borrow.Author.Tests.{eqb-true}
-use Rattle.octets.specs.Sets.{isBlank, isToken, isPlain, isEscapable, isTarget, isHex}
+use Rattle.octets.specs.Sets.{all, isBlank, isToken, isPlain, isEscapable, isTarget, isHex}
 use Rattle.grammar.specs.Link.{Link}
 use Rattle.grammar.specs.Grammar.{Extra, Apart, Field}
-use Rattle.grammar.specs.Join.{all, Padded, padded, join, Accepted}
+use Rattle.grammar.specs.Join.{Padded, padded, join, Readable}
 use Rattle.grammar.specs.Laws.{JoinsMalformed}
 use Rattle.grammar.proofs.Machine.{
   State, gap, target, percent, hex, after, semi, name, named, equals, bare, wide, quote, escape, dead, step, run, settle
@@ -158,15 +158,15 @@ module _ (extra : Extra) (apart : Apart extra) where
       )
 
   -- the links of the join, before keeping
-  abbrev pub joinedAll : ℕ → List (Accepted extra) → List Link
+  abbrev pub joinedAll : ℕ → List (Readable extra) → List Link
   joinedAll k [] = []
   joinedAll k (a ∷ hs) =
-      map (raiseLink (k + length (a .pad .left))) (a .reads .all) ++ joinedAll (k + length (padded (a .pad)) + 1) hs
+      map (raiseLink (k + length (a .pad .left))) (a .reads .links) ++ joinedAll (k + length (padded (a .pad)) + 1) hs
 
-  abbrev pub pads : List (Accepted extra) → List Padded
-  pads hs = map (λ (a : Accepted extra). a .pad) hs
+  abbrev pub pads : List (Readable extra) → List Padded
+  pads hs = map (λ (a : Readable extra). a .pad) hs
 
-  joined-run : (hs : List (Accepted extra)) (pre : List Link) (k : ℕ)
+  joined-run : (hs : List (Readable extra)) (pre : List Link) (k : ℕ)
       → (ls : List Link) × (settle (run extra (gap pre) k (join (pads hs))) (k + length (join (pads hs))) ≡ some ls)
       × (reverse ls ≡ reverse pre ++ joinedAll k hs)
   joined-run [] pre k = (pre, refl, sym (append-nil (reverse pre)))
@@ -189,7 +189,7 @@ module _ (extra : Extra) (apart : Apart extra) where
       )
 
   -- the join of accepted headers is derived, with the links of each, raised
-  pub joined-derived : (hs : List (Accepted extra)) → Field extra (join (pads hs)) (joinedAll 0 hs)
+  pub joined-derived : (hs : List (Readable extra)) → Field extra (join (pads hs)) (joinedAll 0 hs)
   joined-derived hs =
       let (ls, q, r) = joined-run hs [] 0 in
       let end : 0 + length (join (pads hs)) ≡ length (join (pads hs)) = omega arith in

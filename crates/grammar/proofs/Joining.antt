@@ -10,9 +10,9 @@ use Rattle.octets.specs.Fold.{folded}
 use Rattle.grammar.specs.Link.{Link, Param}
 use Rattle.grammar.specs.Grammar.{Extra, Apart}
 use Rattle.grammar.specs.Kept.{nameOf, among, isOnce, unless, keepAfter, keptLink, Reading}
-use Rattle.grammar.specs.Records.{linkRecords, recordsOf, paramRecords, paramCount}
+use Rattle.grammar.specs.Records.{linkRecords, recordsOf, paramRecords, countParams}
 use Rattle.grammar.specs.Join.{
-  Padded, padded, join, raiseLinks, raiseParams, Accepted, joinedLinks, joinedParams, linkSum, paramSum, JoinReads
+  Padded, padded, join, raiseLinks, raiseParams, Readable, joinedLinks, joinedParams, linkSum, paramSum, JoinReads
 }
 use Rattle.grammar.specs.Laws.{Joins}
 use Rattle.grammar.proofs.Raise.{raiseParam, raiseLink}
@@ -48,30 +48,30 @@ module _ (u s v : List ℕ) where
   kept-raised (link-in {l = l} {ls = ls} h r) =
       ap₂
       (λ (ps : List Param) (ms : List Link).
-        record { from = length u + l .from; to = length u + l .to; params = ps } ∷ ms)
+        record { targetFrom = length u + l .targetFrom; targetTo = length u + l .targetTo; params = ps } ∷ ms)
       (keep-raised [] h) (kept-raised r)
 
 module _ (extra : Extra) (apart : Apart extra) where
   -- the links of the join, with their kept parameters
-  joinedKept : ℕ → List (Accepted extra) → List Link
+  joinedKept : ℕ → List (Readable extra) → List Link
   joinedKept k [] = []
   joinedKept k (a ∷ hs) =
       map (raiseLink (k + length (a .pad .left))) (a .reading) ++ joinedKept (k + length (padded (a .pad)) + 1) hs
 
-  kept-one : (w u v : List ℕ) (a : Accepted extra) (k : ℕ) → w ≡ u ++ a .pad .left ++ (a .pad .header ++ v) → length u ≡ k
-      → map (keptLink w) (map (raiseLink (k + length (a .pad .left))) (a .reads .all))
+  kept-one : (w u v : List ℕ) (a : Readable extra) (k : ℕ) → w ≡ u ++ a .pad .left ++ (a .pad .header ++ v) → length u ≡ k
+      → map (keptLink w) (map (raiseLink (k + length (a .pad .left))) (a .reads .links))
       ≡ map (raiseLink (k + length (a .pad .left))) (a .reading)
   kept-one w u v a k e h =
       let n : k + length (a .pad .left) ≡ length (u ++ a .pad .left) = omega (arith, length-append u (a .pad .left)) in
       rw (n, e, a .reads .kept)
       (kept-raised (u ++ a .pad .left) (a .pad .header) v (items-inside extra (a .pad .header) (a .reads .derived .items)))
 
-  kept-all : (hs : List (Accepted extra)) (w u : List ℕ) (k : ℕ) → w ≡ u ++ join (pads extra apart hs) → length u ≡ k
+  kept-all : (hs : List (Readable extra)) (w u : List ℕ) (k : ℕ) → w ≡ u ++ join (pads extra apart hs) → length u ≡ k
       → map (keptLink w) (joinedAll extra apart k hs) ≡ joinedKept k hs
   unfolding joinedKept
   kept-all [] w u k e h = refl
   kept-all (a ∷ []) w u k e h =
-      map-append (keptLink w) (map (raiseLink (k + length (a .pad .left))) (a .reads .all)) []
+      map-append (keptLink w) (map (raiseLink (k + length (a .pad .left))) (a .reads .links)) []
       ∙ ap (λ (x : List Link). x ++ []) (kept-one w u (a .pad .right) a k (e ∙ simp append-assoc) h)
   kept-all (a ∷ b ∷ hs) w u k e h =
       let J = join (pads extra apart (b ∷ hs)) in
@@ -79,7 +79,7 @@ module _ (extra : Extra) (apart : Apart extra) where
       let n : length u′ ≡ k + length (padded (a .pad)) + 1 =
           omega (arith, length-append (u ++ padded (a .pad)) (44 ∷ []), length-append u (padded (a .pad)))
       in
-      map-append (keptLink w) (map (raiseLink (k + length (a .pad .left))) (a .reads .all)) _
+      map-append (keptLink w) (map (raiseLink (k + length (a .pad .left))) (a .reads .links)) _
       ∙ ap₂ (λ (x y : List Link). x ++ y) (kept-one w u (a .pad .right ++ 44 ∷ J) a k (e ∙ simp append-assoc) h)
       (kept-all (b ∷ hs) w u′ (k + length (padded (a .pad)) + 1) (e ∙ simp append-assoc) n)
 
@@ -90,7 +90,7 @@ link-records-raised : (k m n : ℕ) (ls : List Link)
 link-records-raised k m n [] = refl
 link-records-raised k m n (l ∷ ls) =
     rw (length-map (l .params) (raiseParam k), add-assoc m n (length (l .params)))
-    (ap (λ (x : List ℕ). (k + l .from) ∷ (k + l .to) ∷ (m + n) ∷ length (l .params) ∷ x)
+    (ap (λ (x : List ℕ). (k + l .targetFrom) ∷ (k + l .targetTo) ∷ (m + n) ∷ length (l .params) ∷ x)
     (link-records-raised k m (n + length (l .params)) ls))
 
 params-raised : (k : ℕ) (ps : List Param) (rs : List ℕ)
@@ -108,16 +108,16 @@ param-records-raised k (l ∷ ls) =
     ap (λ (x : List ℕ). recordsOf (map (raiseParam k) (l .params)) ++ x) (param-records-raised k ls)
     ∙ sym (params-raised k (l .params) (paramRecords ls))
 
-param-count-raised : (k : ℕ) (ls : List Link) → paramCount (map (raiseLink k) ls) ≡ paramCount ls
+param-count-raised : (k : ℕ) (ls : List Link) → countParams (map (raiseLink k) ls) ≡ countParams ls
 param-count-raised k [] = refl
 param-count-raised k (l ∷ ls) = rw (length-map (l .params) (raiseParam k), param-count-raised k ls)
 
 link-records-append : (n : ℕ) (ls ms : List Link)
-    → linkRecords n (ls ++ ms) ≡ linkRecords n ls ++ linkRecords (n + paramCount ls) ms
+    → linkRecords n (ls ++ ms) ≡ linkRecords n ls ++ linkRecords (n + countParams ls) ms
 link-records-append n [] ms = ap (λ (x : ℕ). linkRecords x ms) (sym (add-zero n))
 link-records-append n (l ∷ ls) ms =
-    rw (← add-assoc n (length (l .params)) (paramCount ls))
-    (ap (λ (x : List ℕ). l .from ∷ l .to ∷ n ∷ length (l .params) ∷ x)
+    rw (← add-assoc n (length (l .params)) (countParams ls))
+    (ap (λ (x : List ℕ). l .targetFrom ∷ l .targetTo ∷ n ∷ length (l .params) ∷ x)
     (link-records-append (n + length (l .params)) ls ms))
 
 param-records-append : (ls ms : List Link) → paramRecords (ls ++ ms) ≡ paramRecords ls ++ paramRecords ms
@@ -126,12 +126,12 @@ param-records-append (l ∷ ls) ms =
     ap (λ (x : List ℕ). recordsOf (l .params) ++ x) (param-records-append ls ms)
     ∙ sym (append-assoc (recordsOf (l .params)) (paramRecords ls) (paramRecords ms))
 
-param-count-append : (ls ms : List Link) → paramCount (ls ++ ms) ≡ paramCount ls + paramCount ms
-param-count-append [] ms = sym (zero-add (paramCount ms))
-param-count-append (l ∷ ls) ms = rw (param-count-append ls ms) (sym (add-assoc (length (l .params)) (paramCount ls) (paramCount ms)))
+param-count-append : (ls ms : List Link) → countParams (ls ++ ms) ≡ countParams ls + countParams ms
+param-count-append [] ms = sym (zero-add (countParams ms))
+param-count-append (l ∷ ls) ms = rw (param-count-append ls ms) (sym (add-assoc (length (l .params)) (countParams ls) (countParams ms)))
 
 module _ (extra : Extra) (apart : Apart extra) where
-  joined-links : (k m : ℕ) (hs : List (Accepted extra)) → linkRecords m (joinedKept extra apart k hs) ≡ joinedLinks extra k m hs
+  joined-links : (k m : ℕ) (hs : List (Readable extra)) → linkRecords m (joinedKept extra apart k hs) ≡ joinedLinks extra k m hs
   unfolding joinedKept
   joined-links k m [] = refl
   joined-links k m (a ∷ hs) =
@@ -142,9 +142,9 @@ module _ (extra : Extra) (apart : Apart extra) where
       ∙ link-records-raised j m 0 (a .reading))
       (ap (λ (n : ℕ). linkRecords (m + n) (joinedKept extra apart (k + length (padded (a .pad)) + 1) hs))
       (param-count-raised j (a .reading))
-      ∙ joined-links (k + length (padded (a .pad)) + 1) (m + paramCount (a .reading)) hs)
+      ∙ joined-links (k + length (padded (a .pad)) + 1) (m + countParams (a .reading)) hs)
 
-  joined-params : (k : ℕ) (hs : List (Accepted extra)) → paramRecords (joinedKept extra apart k hs) ≡ joinedParams extra k hs
+  joined-params : (k : ℕ) (hs : List (Readable extra)) → paramRecords (joinedKept extra apart k hs) ≡ joinedParams extra k hs
   unfolding joinedKept
   joined-params k [] = refl
   joined-params k (a ∷ hs) =
@@ -153,7 +153,7 @@ module _ (extra : Extra) (apart : Apart extra) where
       ∙ ap₂ (λ (x y : List ℕ). x ++ y) (param-records-raised j (a .reading))
       (joined-params (k + length (padded (a .pad)) + 1) hs)
 
-  joined-link-count : (k : ℕ) (hs : List (Accepted extra)) → length (joinedKept extra apart k hs) ≡ linkSum extra hs
+  joined-link-count : (k : ℕ) (hs : List (Readable extra)) → length (joinedKept extra apart k hs) ≡ linkSum extra hs
   unfolding joinedKept
   joined-link-count k [] = refl
   joined-link-count k (a ∷ hs) =
@@ -163,7 +163,7 @@ module _ (extra : Extra) (apart : Apart extra) where
         joined-link-count (k + length (padded (a .pad)) + 1) hs
       )
 
-  joined-param-count : (k : ℕ) (hs : List (Accepted extra)) → paramCount (joinedKept extra apart k hs) ≡ paramSum extra hs
+  joined-param-count : (k : ℕ) (hs : List (Readable extra)) → countParams (joinedKept extra apart k hs) ≡ paramSum extra hs
   unfolding joinedKept
   joined-param-count k [] = refl
   joined-param-count k (a ∷ hs) =
@@ -179,7 +179,7 @@ joins extra apart hs =
       links = joinedKept extra apart 0 hs;
       reads =
           record {
-            all = joinedAll extra apart 0 hs; derived = joined-derived extra apart hs;
+            links = joinedAll extra apart 0 hs; derived = joined-derived extra apart hs;
             kept = sym (kept-all extra apart hs (join (pads extra apart hs)) [] 0 refl refl)
           };
       link-records = joined-links extra apart 0 0 hs;

@@ -8,6 +8,7 @@ pub mod Exact
 pub mod Editions
 pub mod Readings
 pub mod Prefix
+pub mod OctetsOnly
 pub mod Raise
 pub mod Joined
 pub mod Spans

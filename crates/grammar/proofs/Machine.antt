@@ -12,8 +12,8 @@ use Rattle.grammar.specs.Grammar.{Extra, isBare}
 -- the link that is being read, behind finished links
 pub record Open : Type 0 where
   pub done : List Link
-  pub from : ℕ
-  pub to : ℕ
+  pub targetFrom : ℕ
+  pub targetTo : ℕ
   pub params : List Param
 
 pub data State : Type 0 where
@@ -27,7 +27,7 @@ pub data State : Type 0 where
 
 -- the link just closed by `>`
 abbrev pub opened : List Link → ℕ → ℕ → Open
-opened ls a k = record { done = ls; from = a; to = k; params = [] }
+opened ls a k = record { done = ls; targetFrom = a; targetTo = k; params = [] }
 
 abbrev pub param : ℕ → ℕ → ℕ → ℕ → ℕ → Param
 param n e a b f = record { nameFrom = n; nameTo = e; valueFrom = a; valueTo = b; form = f }
@@ -37,11 +37,11 @@ abbrev pub flag : ℕ → ℕ → Param
 flag n e = param n e e e 0
 
 abbrev pub add : Param → Open → Open
-add p o = record { done = o .done; from = o .from; to = o .to; params = p ∷ o .params }
+add p o = record { done = o .done; targetFrom = o .targetFrom; targetTo = o .targetTo; params = p ∷ o .params }
 
 -- the finished links with the open one, last first
 abbrev pub close : Open → List Link
-close o = record { from = o .from; to = o .to; params = reverse (o .params) } ∷ o .done
+close o = record { targetFrom = o .targetFrom; targetTo = o .targetTo; params = reverse (o .params) } ∷ o .done
 
 -- what a link and its parameters may be followed by
 abbrev pub next : Open → ℕ → State

@@ -15,7 +15,7 @@ use Rattle.octets.specs.Sets.{isBlank, isToken, isTarget, isHex, isEscapable}
 use Rattle.grammar.specs.Link.{Link}
 use Rattle.grammar.specs.Grammar.{Extra, Apart}
 use Rattle.grammar.specs.Place.{Begins, Place}
-use Rattle.grammar.specs.Laws.{OnePlace}
+use Rattle.grammar.specs.Laws.{OnePlace, CutShort}
 use Rattle.grammar.proofs.Machine.{
   State, gap, target, percent, hex, after, semi, name, named, equals, bare, wide, quote, escape, dead, step, run, finish
 }
@@ -174,3 +174,12 @@ pub one-place : OnePlace
 one-place extra apart s =
     let (k, p) = find-place extra apart s (length s) 0 (omega arith) refl in
     (k, p, λ j q. same-place extra apart s j k q p)
+
+-- of a header that begins a derivable one, the whole is the longest such prefix
+pub cut-short : CutShort
+cut-short extra s b =
+    record {
+      within = omega arith;
+      begins = subst (λ (u : List ℕ). Begins extra u) (sym (take-length s)) b;
+      longest = λ j lt le _. omega arith
+    }

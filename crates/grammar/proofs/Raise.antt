@@ -24,7 +24,7 @@ raiseParam k p =
     }
 
 abbrev pub raiseLink : ℕ → Link → Link
-raiseLink k l = record { from = k + l .from; to = k + l .to; params = map (raiseParam k) (l .params) }
+raiseLink k l = record { targetFrom = k + l .targetFrom; targetTo = k + l .targetTo; params = map (raiseParam k) (l .params) }
 
 pub map-reverseAux : {A B : Type 0} (f : A → B) (xs ys : List A) → reverseAux (map f xs) (map f ys) ≡ map f (reverseAux xs ys)
 map-reverseAux f [] ys = refl
@@ -42,7 +42,7 @@ module _ (k : ℕ) (pre : List Link) where
 
   abbrev pub liftOpen : Open → Open
   liftOpen o =
-      record { done = behind (o .done); from = k + o .from; to = k + o .to; params = map (raiseParam k) (o .params) }
+      record { done = behind (o .done); targetFrom = k + o .targetFrom; targetTo = k + o .targetTo; params = map (raiseParam k) (o .params) }
 
   abbrev pub lift : State → State
   lift (gap ls) = gap (behind ls)
@@ -63,7 +63,7 @@ module _ (k : ℕ) (pre : List Link) where
   pub close-lift : (o : Open) → close (liftOpen o) ≡ behind (close o)
   close-lift o =
       ap
-      (λ (ps : List Param). record { from = k + o .from; to = k + o .to; params = ps } ∷ behind (o .done))
+      (λ (ps : List Param). record { targetFrom = k + o .targetFrom; targetTo = k + o .targetTo; params = ps } ∷ behind (o .done))
       (map-reverseAux (raiseParam k) (o .params) [])
 
   next-lift : (o : Open) (c : ℕ) → next (liftOpen o) c ≡ lift (next o c)

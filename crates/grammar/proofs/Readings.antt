@@ -35,7 +35,7 @@ unread-malformed extra apart s e R f =
 
 pub read-reading : (extra : Extra) → Apart extra → (s : List ℕ) (R : List Link)
     → finish (run extra (gap []) 0 s) (length s) ≡ some R → Reading extra s (map (keptLink s) R)
-read-reading extra apart s R e = record { all = R; derived = read-derived extra apart s e; kept = refl }
+read-reading extra apart s R e = record { links = R; derived = read-derived extra apart s e; kept = refl }
 
 pub decided : Decided
 decided extra apart s = go (finish (run extra (gap []) 0 s) (length s)) refl

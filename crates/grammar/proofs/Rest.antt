@@ -15,7 +15,7 @@ use Rattle.grammar.proofs.Machine.{
 
 -- all the links, if the open one gets the parameters ps and R come after it
 abbrev pub whole : Open → List Param → List Link → List Link
-whole o ps R = reverseAux (o .done) (record { from = o .from; to = o .to; params = reverseAux (o .params) ps } ∷ R)
+whole o ps R = reverseAux (o .done) (record { targetFrom = o .targetFrom; targetTo = o .targetTo; params = reverseAux (o .params) ps } ∷ R)
 
 module _ (extra : Extra) (s : List ℕ) where
   -- the rest of a comma list, from a place where one may begin
@@ -53,12 +53,12 @@ module _ (extra : Extra) (s : List ℕ) where
   pub data Rest : State → ℕ → List Link → Type 0 where
     r-gap : {ls : List Link} {i : ℕ} {R : List Link} → Gap i R → Rest (gap ls) i (reverseAux ls R)
     r-target : {ls : List Link} {a i k : ℕ} {ps : List Param} {R : List Link} → Target s i k → At s k 62 → After (suc k) ps R
-        → Rest (target ls a) i (reverseAux ls (record { from = a; to = k; params = ps } ∷ R))
+        → Rest (target ls a) i (reverseAux ls (record { targetFrom = a; targetTo = k; params = ps } ∷ R))
     r-percent : {ls : List Link} {a i k : ℕ} {ps : List Param} {R : List Link} → In s isHex i → In s isHex (suc i)
         → Target s (suc (suc i)) k → At s k 62 → After (suc k) ps R
-        → Rest (percent ls a) i (reverseAux ls (record { from = a; to = k; params = ps } ∷ R))
+        → Rest (percent ls a) i (reverseAux ls (record { targetFrom = a; targetTo = k; params = ps } ∷ R))
     r-hex : {ls : List Link} {a i k : ℕ} {ps : List Param} {R : List Link} → In s isHex i → Target s (suc i) k → At s k 62
-        → After (suc k) ps R → Rest (hex ls a) i (reverseAux ls (record { from = a; to = k; params = ps } ∷ R))
+        → After (suc k) ps R → Rest (hex ls a) i (reverseAux ls (record { targetFrom = a; targetTo = k; params = ps } ∷ R))
     r-after : {o : Open} {i : ℕ} {ps : List Param} {R : List Link} → After i ps R → Rest (after o) i (whole o ps R)
     r-semi : {o : Open} {i b j : ℕ} {p : Param} {ps : List Param} {R : List Link} → Blanks s i b → Parameter extra s b j p
         → After j ps R → Rest (semi o) i (whole o (p ∷ ps) R)

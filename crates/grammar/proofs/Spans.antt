@@ -8,9 +8,8 @@ use lib.ListN.{length, take, drop}
 use lib.Seq.{slice, take-append-add, drop-append-add, take-append-le}
 use Rattle.octets.specs.Sets.{isToken}
 use Rattle.grammar.specs.Link.{Link, Param}
-use Rattle.grammar.specs.Grammar
 use Rattle.grammar.specs.Grammar.{
-  Extra, Run, run-end, run-more, Token, Parameter, valued, Parameters, no-more, and-one, link, empty, one, Items, last, comma
+  Extra, Run, run-end, run-more, Token, Parameter, valueless, valued, Parameters, no-more, and-one, link, empty, one, Items, last, comma
 }
 use Rattle.grammar.specs.Grammar.{OneLink, Item}
 
@@ -23,13 +22,13 @@ pub data AllNamesIn (n : ℕ) : List Link → Type 0 where
   no-links : AllNamesIn n []
   link-in : {l : Link} {ls : List Link} → NamesIn n (l .params) → AllNamesIn n ls → AllNamesIn n (l ∷ ls)
 
-run-inside : (s : List ℕ) {f : ℕ → Bool} {i j : ℕ} → i ≤ length s → Run s f i j → j ≤ length s
+pub run-inside : (s : List ℕ) {f : ℕ → Bool} {i j : ℕ} → i ≤ length s → Run s f i j → j ≤ length s
 run-inside s h run-end = h
 run-inside s h (run-more c r) = run-inside s (c .inside) r
 
 module _ (extra : Extra) (s : List ℕ) where
   name-inside : {i j : ℕ} {p : Param} → Parameter extra s i j p → p .nameTo ≤ length s
-  name-inside (Grammar.bare n bl) = run-inside s (n .first .inside) (n .rest)
+  name-inside (valueless n bl) = run-inside s (n .first .inside) (n .rest)
   name-inside (valued n bl q cl v) = run-inside s (n .first .inside) (n .rest)
 
   params-inside : {i j : ℕ} {ps : List Param} → Parameters extra s i j ps → NamesIn (length s) ps

@@ -65,14 +65,15 @@ pub record Apart (extra : Extra) : Type 0 where
   pub quote : extra 34 ≡ false
   pub comma : extra 44 ≡ false
   pub semicolon : extra 59 ≡ false
+  pub octets : (c : ℕ) → extra c ≡ true → c < 256
 
 -- an octet of a bare value
 abbrev pub isBare : Extra → ℕ → Bool
 isBare extra c = isToken c || extra c
 
 module _ (extra : Extra) (s : List ℕ) where
-  -- a value, with its span's start and end and its form: a token is form 1, a quoted string form 2,
-  -- and a bare value whose octet at k is the first outside a token form 3
+  -- a value, with its span's start and end and its form: a token is form 1, a quoted string form 2, and a bare value
+  -- whose octet at k is the first outside a token form 3 (never so in RFC 8288's edition)
   pub data Value : ℕ → ℕ → ℕ → ℕ → ℕ → Type 0 where
     token : {i j : ℕ} → Token s i j → Value i j i j 1
     quoted : {i k : ℕ} → At s i 34 → Inside s (suc i) k → At s k 34 → Value i (suc k) (suc i) k 2
@@ -80,7 +81,7 @@ module _ (extra : Extra) (s : List ℕ) where
 
   -- a parameter: a name and BWS, then optionally `=`, BWS and a value
   pub data Parameter : ℕ → ℕ → Param → Type 0 where
-    bare : {i e j : ℕ} → Token s i e → Blanks s e j
+    valueless : {i e j : ℕ} → Token s i e → Blanks s e j
         → Parameter i j (record { nameFrom = i; nameTo = e; valueFrom = e; valueTo = e; form = 0 })
     valued : {i e k v j a b f : ℕ} → Token s i e → Blanks s e k → At s k 61 → Blanks s (suc k) v → Value v j a b f
         → Parameter i j (record { nameFrom = i; nameTo = e; valueFrom = a; valueTo = b; form = f })
@@ -94,7 +95,7 @@ module _ (extra : Extra) (s : List ℕ) where
   -- a link: `<`, a target, `>`, and its parameters
   pub data OneLink : ℕ → ℕ → Link → Type 0 where
     link : {i k j : ℕ} {ps : List Param} → At s i 60 → Target s (suc i) k → At s k 62 → Parameters (suc k) j ps
-        → OneLink i j (record { from = suc i; to = k; params = ps })
+        → OneLink i j (record { targetFrom = suc i; targetTo = k; params = ps })
 
   -- a place of the comma list: empty, or one link
   pub data Item : ℕ → ℕ → List Link → Type 0 where

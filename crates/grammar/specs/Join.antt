@@ -1,18 +1,14 @@
 -- Joining headers: in order, with any SP and HTAB before and after each, and one comma between neighbours.
 use Prim.Native.Nat.{ℕ, _+_}
 use mathlib.Core.Path.{_≡_}
-use mathlib.Core.Bool.{Bool, true, _&&_}
+use mathlib.Core.Bool.{true}
 use mathlib.Core.List.{List, [], _∷_, _++_, map}
 use lib.ListN.{length}
-use Rattle.octets.specs.Sets.{isBlank}
+use Rattle.octets.specs.Sets.{all, isBlank}
 use Rattle.grammar.specs.Link.{Link}
 use Rattle.grammar.specs.Grammar.{Extra}
 use Rattle.grammar.specs.Kept.{Reading}
-use Rattle.grammar.specs.Records.{linkRecords, paramRecords, paramCount}
-
-abbrev pub all : (ℕ → Bool) → List ℕ → Bool
-all f [] = true
-all f (c ∷ s) = f c && all f s
+use Rattle.grammar.specs.Records.{linkRecords, paramRecords, countParams}
 
 -- a header to be joined, with the SP and HTAB that stand before and after it
 pub record Padded : Type 0 where
@@ -49,39 +45,39 @@ raiseParams k (a ∷ b ∷ c ∷ d ∷ []) = []
 raiseParams k (a ∷ b ∷ c ∷ d ∷ f ∷ rs) = (k + a) ∷ (k + b) ∷ (k + c) ∷ (k + d) ∷ f ∷ raiseParams k rs
 
 module _ (extra : Extra) where
-  -- a header of a join that has a reading by itself
-  pub record Accepted : Type 0 where
+  -- a header of a join, with the reading that it has by itself, limits of length and room aside
+  pub record Readable : Type 0 where
     pub pad : Padded
     pub reading : List Link
     pub reads : Reading extra (pad .header) reading
 
   -- the join's records: the headers' own, in order, where k octets and m parameters stand before the first of them
-  abbrev pub joinedLinks : ℕ → ℕ → List Accepted → List ℕ
+  abbrev pub joinedLinks : ℕ → ℕ → List Readable → List ℕ
   joinedLinks k m [] = []
   joinedLinks k m (a ∷ hs) =
       raiseLinks (k + length (a .pad .left)) m (linkRecords 0 (a .reading))
-      ++ joinedLinks (k + length (padded (a .pad)) + 1) (m + paramCount (a .reading)) hs
+      ++ joinedLinks (k + length (padded (a .pad)) + 1) (m + countParams (a .reading)) hs
 
-  abbrev pub joinedParams : ℕ → List Accepted → List ℕ
+  abbrev pub joinedParams : ℕ → List Readable → List ℕ
   joinedParams k [] = []
   joinedParams k (a ∷ hs) =
       raiseParams (k + length (a .pad .left)) (paramRecords (a .reading))
       ++ joinedParams (k + length (padded (a .pad)) + 1) hs
 
   -- the sums of the counts
-  abbrev pub linkSum : List Accepted → ℕ
+  abbrev pub linkSum : List Readable → ℕ
   linkSum [] = 0
   linkSum (a ∷ hs) = length (a .reading) + linkSum hs
 
-  abbrev pub paramSum : List Accepted → ℕ
+  abbrev pub paramSum : List Readable → ℕ
   paramSum [] = 0
-  paramSum (a ∷ hs) = paramCount (a .reading) + paramSum hs
+  paramSum (a ∷ hs) = countParams (a .reading) + paramSum hs
 
-  -- how a join of accepted headers reads
-  pub record JoinReads (hs : List Accepted) : Type 0 where
+  -- how the join of headers that have readings reads
+  pub record JoinReads (hs : List Readable) : Type 0 where
     pub links : List Link
-    pub reads : Reading extra (join (map (λ (a : Accepted). a .pad) hs)) links
+    pub reads : Reading extra (join (map (λ (a : Readable). a .pad) hs)) links
     pub link-records : linkRecords 0 links ≡ joinedLinks 0 0 hs
     pub param-records : paramRecords links ≡ joinedParams 0 hs
     pub link-count : length links ≡ linkSum hs
-    pub param-count : paramCount links ≡ paramSum hs
+    pub param-count : countParams links ≡ paramSum hs

@@ -1,4 +1,4 @@
--- Kept parameters: within one link, of six names only the first is kept.
+-- Kept parameters: within one link, of six names only the first is kept. Later ones must still be derived.
 use Prim.Native.Nat.{ℕ}
 use mathlib.Core.Bool.{Bool, true, false, _&&_, _||_}
 use mathlib.Core.List.{List, [], _∷_, map}
@@ -30,7 +30,7 @@ abbrev pub unless : Bool → Param → List Param → List Param
 unless true p ps = ps
 unless false p ps = p ∷ ps
 
--- the parameters that are kept, after parameters of the names `earlier`
+-- the kept parameters, after parameters of the names `earlier`: all but a later one of one of the six names
 abbrev pub keepAfter : List ℕ → List (List ℕ) → List Param → List Param
 keepAfter s earlier [] = []
 keepAfter s earlier (p ∷ ps) =
@@ -38,10 +38,10 @@ keepAfter s earlier (p ∷ ps) =
 
 -- the link with its kept parameters
 abbrev pub keptLink : List ℕ → Link → Link
-keptLink s l = record { from = l .from; to = l .to; params = keepAfter s [] (l .params) }
+keptLink s l = record { targetFrom = l .targetFrom; targetTo = l .targetTo; params = keepAfter s [] (l .params) }
 
--- A reading of a header: the links that a derivation gives, with their kept parameters.
+-- A reading of a header: the links that a derivation gives, with their kept parameters. Several derivations may share one.
 pub record Reading (extra : Extra) (s : List ℕ) (K : List Link) : Type 0 where
-  pub all : List Link
-  pub derived : Field extra s all
-  pub kept : K ≡ map (keptLink s) all
+  pub links : List Link
+  pub derived : Field extra s links
+  pub kept : K ≡ map (keptLink s) links

@@ -2,12 +2,15 @@
 use Prim.Native.Nat.{ℕ}
 use mathlib.Core.Path.{_≡_}
 use mathlib.Core.Logic.{_⊎_}
+use mathlib.Core.Bool.{true}
 use mathlib.Core.List.{List, [], _∷_}
+use lib.ListN.{length}
+use Rattle.octets.specs.Sets.{all, isOctet}
 use Rattle.grammar.specs.Link.{Link}
 use Rattle.grammar.specs.Grammar.{Extra, Apart}
 use Rattle.grammar.specs.Kept.{Reading}
-use Rattle.grammar.specs.Place.{Malformed, Place}
-use Rattle.grammar.specs.Join.{Padded, join, Accepted, JoinReads}
+use Rattle.grammar.specs.Place.{Malformed, Begins, Place}
+use Rattle.grammar.specs.Join.{Padded, join, Readable, JoinReads}
 
 -- no header has two readings
 abbrev pub OneReading : Type 0
@@ -25,11 +28,20 @@ OnePlace =
     (extra : Extra) → Apart extra → (s : List ℕ)
     → (k : ℕ) × Place extra s k × ((j : ℕ) → Place extra s j → j ≡ k)
 
--- the joining law: a single claim about a whole list of accepted headers
-abbrev pub Joins : Type 0
-Joins = (extra : Extra) → Apart extra → (hs : List (Accepted extra)) → JoinReads extra hs
+-- a header cut short, which some derivable header begins with, has its own length as place
+abbrev pub CutShort : Type 0
+CutShort = (extra : Extra) → (s : List ℕ) → Begins extra s → Place extra s (length s)
 
--- an accepted header joined with a malformed one is malformed
+-- every number of a derivable header is an octet
+abbrev pub OctetsOnly : Type 0
+OctetsOnly =
+    (extra : Extra) → Apart extra → (s : List ℕ) (K : List Link) → Reading extra s K → all isOctet s ≡ true
+
+-- the joining law: a single claim about a whole list of headers that have readings
+abbrev pub Joins : Type 0
+Joins = (extra : Extra) → Apart extra → (hs : List (Readable extra)) → JoinReads extra hs
+
+-- a header that has a reading, followed by a malformed one, joins to a malformed header
 abbrev pub JoinsMalformed : Type 0
 JoinsMalformed =
     (extra : Extra) → Apart extra → (p q : Padded) (K : List Link) → Reading extra (p .header) K

@@ -3,7 +3,8 @@ use Prim.Native.Nat.{ℕ}
 use mathlib.Core.List.{List}
 
 -- One parameter: where its name and its value stand, and the value's form. A span's end is one past its last octet.
--- Form 0 is no value (both value places are the name's end), 1 a token, 2 a quoted string (the span lies inside the quotes).
+-- Form 0 is no value (both value places are the name's end), 1 a token, 2 a quoted string (the span lies inside the quotes,
+-- backslashes still there). Form 3 belongs to editions of the grammar with further octets; RFC 8288's never gives it.
 pub record Param : Type 0 where
   pub nameFrom : ℕ
   pub nameTo : ℕ
@@ -13,6 +14,6 @@ pub record Param : Type 0 where
 
 -- One link: where its target stands, and its parameters in order.
 pub record Link : Type 0 where
-  pub from : ℕ
-  pub to : ℕ
+  pub targetFrom : ℕ
+  pub targetTo : ℕ
   pub params : List Param

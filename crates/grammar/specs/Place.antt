@@ -15,7 +15,8 @@ pub record Begins (extra : Extra) (u : List ℕ) : Type 0 where
   pub links : List Link
   pub derived : Field extra (u ++ rest) links
 
--- the place of a malformed header: the length of its longest prefix that begins some derivable header
+-- the place of a header: the length of its longest prefix that begins some derivable header, limits of length aside
+-- (of a derivable header that is its whole length; only of a malformed one is it answered)
 pub record Place (extra : Extra) (s : List ℕ) (k : ℕ) : Type 0 where
   pub within : k ≤ length s
   pub begins : Begins extra (take k s)

@@ -1,20 +1,27 @@
 -- The numbers that a table holds for a list of links.
-use Prim.Native.Nat.{ℕ, _+_}
+use Prim.Native.Nat.{ℕ, _+_, _/_}
 use mathlib.Core.List.{List, [], _∷_, _++_}
 use lib.ListN.{length}
 use Rattle.grammar.specs.Link.{Link, Param}
 
+-- Room: the slots lent, divided by the numbers of a record and rounded down.
+abbrev pub linkRoom : List ℕ → ℕ
+linkRoom L = length L / 4
+
+abbrev pub paramRoom : List ℕ → ℕ
+paramRoom P = length P / 5
+
 -- how many parameters the links have in all
-abbrev pub paramCount : List Link → ℕ
-paramCount [] = 0
-paramCount (l ∷ ls) = length (l .params) + paramCount ls
+abbrev pub countParams : List Link → ℕ
+countParams [] = 0
+countParams (l ∷ ls) = length (l .params) + countParams ls
 
 -- link records, 4 numbers each: target start, target end, number of the first parameter, count of parameters;
 -- the first link's parameters begin at number n
 abbrev pub linkRecords : ℕ → List Link → List ℕ
 linkRecords n [] = []
 linkRecords n (l ∷ ls) =
-    l .from ∷ l .to ∷ n ∷ length (l .params) ∷ linkRecords (n + length (l .params)) ls
+    l .targetFrom ∷ l .targetTo ∷ n ∷ length (l .params) ∷ linkRecords (n + length (l .params)) ls
 
 -- parameter records, 5 numbers each: name start, name end, value start, value end, form
 abbrev pub recordsOf : List Param → List ℕ

@@ -1,5 +1,5 @@
 // The laws of the grammar, held by the gate: each function promises one statement of specs/Laws.antt and does nothing.
-ghost use Rattle.grammar.specs.Laws.{OneReading, Decided, OnePlace, Joins, JoinsMalformed};
+ghost use Rattle.grammar.specs.Laws.{OneReading, Decided, OnePlace, CutShort, OctetsOnly, Joins, JoinsMalformed};
 
 // No header has two readings.
 pub fn one_reading()
@@ -19,13 +19,25 @@ pub fn one_place()
 {
 }
 
-// A join of accepted headers reads to their records, raised.
+// A header cut short has its own length as place.
+pub fn cut_short()
+    ensures { λ _. ⌜ CutShort ⌝ }
+{
+}
+
+// Every number of a derivable header is an octet.
+pub fn octets_only()
+    ensures { λ _. ⌜ OctetsOnly ⌝ }
+{
+}
+
+// A join of headers that have readings reads to their records, raised.
 pub fn joins()
     ensures { λ _. ⌜ Joins ⌝ }
 {
 }
 
-// An accepted header joined with a malformed one is malformed.
+// A header that has a reading, followed by a malformed one, joins to a malformed header.
 pub fn joins_malformed()
     ensures { λ _. ⌜ JoinsMalformed ⌝ }
 {

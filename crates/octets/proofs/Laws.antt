@@ -9,9 +9,9 @@ use lib.Dec.{eqb}
 use lib.ListN.{length, take, drop, length-map}
 use lib.Seq.{slice, take-nil}
 use borrow.Author.Tests.{eqb-true, eq-eqb, ne-eqb}
-use Rattle.octets.specs.Sets.{between, isLetter, isDigit, isToken, isPlain, isEscapable}
+use Rattle.octets.specs.Sets.{between, isLetter, isDigit, isBlank, isToken, isPlain, isEscapable, isTarget, isHex}
 use Rattle.octets.specs.Fold.{fold, folded, same, sameFolded}
-use Rattle.octets.proofs.Listed.{tokenMarks, plainMarks}
+use Rattle.octets.proofs.Listed.{tokenMarks, targetMarks, plainMarks}
 use Rattle.octets.proofs.Octets.{Octets, both, within, or-octets, between-octets, one-octets, oneOf-octets}
 
 -- ---- a set against an octet that is not in it
@@ -44,6 +44,25 @@ unfolding isEscapable
 escapable-octet =
     or-octets (or-octets (one-octets 9 (omega arith)) (between-octets 32 126 (omega arith)))
     (between-octets 128 255 (omega arith))
+
+pub blank-octet : Octets isBlank
+unfolding isBlank
+blank-octet = oneOf-octets (32 ∷ 9 ∷ []) refl
+
+pub target-octet : Octets isTarget
+unfolding isTarget isLetter isDigit
+target-octet =
+    or-octets
+    (or-octets
+    (or-octets (between-octets 65 90 (omega arith)) (between-octets 97 122 (omega arith)))
+    (between-octets 48 57 (omega arith)))
+    (oneOf-octets targetMarks refl)
+
+pub hex-octet : Octets isHex
+unfolding isHex isDigit
+hex-octet =
+    or-octets (or-octets (between-octets 48 57 (omega arith)) (between-octets 65 70 (omega arith)))
+    (between-octets 97 102 (omega arith))
 
 -- ---- the sets against each other
 

@@ -9,10 +9,19 @@ use Rattle.octets.specs.Text.{octets}
 abbrev pub between : ℕ → ℕ → ℕ → Bool
 between a b c = leb a c && leb c b
 
+-- an octet is a number from 0 to 255
+abbrev pub isOctet : ℕ → Bool
+isOctet c = leb c 255
+
 -- c is one of the octets listed
 abbrev pub oneOf : List ℕ → ℕ → Bool
 oneOf [] c = false
 oneOf (x ∷ xs) c = eqb c x || oneOf xs c
+
+-- every octet of a text is in the set f
+abbrev pub all : (ℕ → Bool) → List ℕ → Bool
+all f [] = true
+all f (c ∷ s) = f c && all f s
 
 unfoldable pub isLetter : ℕ → Bool
 isLetter c = between 65 90 c || between 97 122 c
@@ -24,7 +33,7 @@ isDigit c = between 48 57 c
 unfoldable pub isBlank : ℕ → Bool
 isBlank c = oneOf (32 ∷ 9 ∷ []) c
 
--- a token octet
+-- an octet of a token, and so of a name
 unfoldable pub isToken : ℕ → Bool
 unfolding isLetter isDigit
 isToken c = isLetter c || isDigit c || oneOf (octets "!#$%&'*+-.^_`|~") c

@@ -1,7 +1,7 @@
 -- A link's context: its `anchor` value span as written, else the whole base. The numbers come in the order 1, 5, 8.
-use Prim.Native.Nat.{ℕ, zero, suc, _≤_, _<_}
+use Prim.Native.Nat.{ℕ, _≤_, _<_}
 use mathlib.Core.Path.{_≡_}
-use mathlib.Core.List.{List, []}
+use mathlib.Core.List.{List}
 use mathlib.Core.Option.{Option, none, some}
 use lib.ListN.{length}
 use lib.Seq.{slice}
@@ -22,24 +22,32 @@ pub record ContextOut : Type 0 where
   pub start : ℕ
   pub end : ℕ
 
--- the octets handed back
+-- refused, it hands back the base's first zero octets
+abbrev pub nothing : ℕ → ContextOut
+nothing n = record { number = n; source = of-base; start = 0; end = 0 }
+
+-- the octets handed back: a part of the text or a part of the base
 abbrev pub handed : List ℕ → List ℕ → ContextOut → List ℕ
 handed text base o = elim (o .source) [ of-text ↦ slice (o .start) (o .end) text | of-base ↦ slice (o .start) (o .end) base ]
 
--- the table t, link number i and the caller's base
+-- the `anchor` parameter of link number i, if it has one
+abbrev pub anchor : Table → ℕ → Option Param
+anchor t i = named (t .text) (octets "anchor") ((linkAt (t .linkSlots) (t .paramSlots) i) .params)
+
+-- the table t, the caller's base and link number i
 module _ (t : Table) (base : List ℕ) (i : ℕ) where
-  -- the link's `anchor` parameter, if it has one
-  abbrev pub anchor : Option Param
-  anchor = named (t .text) (octets "anchor") ((linkAt (t .linkSlots) (t .paramSlots) i) .params)
-
-  -- refused, it hands back the base's first zero octets
-  abbrev pub nothing : ℕ → ContextOut
-  nothing n = record { number = n; source = of-base; start = 0; end = 0 }
-
   pub data Context : ContextOut → Type 0 where
     refused : {n : ℕ} → Refused t n → Context (nothing n)
     no-such-link : Usable t → t .linkCount ≤ i → Context (nothing noSuchLink)
-    anchored : {p : Param} → Usable t → i < t .linkCount → anchor ≡ some p
+    anchored : {p : Param} → Usable t → i < t .linkCount → anchor t i ≡ some p
         → Context (record { number = done; source = of-text; start = p .valueFrom; end = p .valueTo })
-    unanchored : Usable t → i < t .linkCount → anchor ≡ none
+    unanchored : Usable t → i < t .linkCount → anchor t i ≡ none
         → Context (record { number = done; source = of-base; start = 0; end = length base })
+
+  -- the entry that hands back the part answers these octets
+  abbrev pub ContextPart : List ℕ → Type 0
+  ContextPart r = (o : ContextOut) × Context o × (r ≡ handed (t .text) base o)
+
+  -- the second entry, on the same inputs, answers this number
+  abbrev pub ContextNumber : ℕ → Type 0
+  ContextNumber n = (o : ContextOut) × Context o × (n ≡ o .number)

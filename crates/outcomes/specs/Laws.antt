@@ -6,7 +6,7 @@ use Rattle.tables.specs.Table.{Table}
 use Rattle.outcomes.specs.Read.{Read}
 use Rattle.outcomes.specs.Search.{Search}
 use Rattle.outcomes.specs.Context.{Context}
-use Rattle.outcomes.specs.Value.{Value}
+use Rattle.outcomes.specs.Copy.{Copy}
 use Rattle.outcomes.specs.Write.{Write}
 
 -- there is an outcome, and no other
@@ -22,8 +22,8 @@ SearchSettled = (t : Table) (q : List ℕ) → Settled (Search t q)
 abbrev pub ContextSettled : Type 0
 ContextSettled = (t : Table) (base : List ℕ) (i : ℕ) → Settled (Context t base i)
 
-abbrev pub ValueSettled : Type 0
-ValueSettled = (t : Table) (i j : ℕ) (out : List ℕ) → Settled (Value t i j out)
+abbrev pub CopySettled : Type 0
+CopySettled = (t : Table) (i j : ℕ) (out : List ℕ) → Settled (Copy t i j out)
 
 abbrev pub WriteSettled : Type 0
 WriteSettled = (t : Table) (out : List ℕ) → Settled (Write t out)

@@ -4,6 +4,6 @@ pub mod Usable
 pub mod Read
 pub mod Search
 pub mod Context
-pub mod Value
+pub mod Copy
 pub mod Write
 pub mod Laws

@@ -1,33 +1,43 @@
--- The numbers that entries answer.
+-- The numbers that entries answer, and when each is given.
 use Prim.Native.Nat.{ℕ}
 
+-- none of those below
 abbrev pub done : ℕ
 done = 0
 
+-- the header, the text or the written form has more octets than the limit
 abbrev pub tooLong : ℕ
 tooLong = 1
 
-abbrev pub malformed : ℕ
-malformed = 2
+-- the grammar doesn't derive the header
+abbrev pub malformedHeader : ℕ
+malformedHeader = 2
 
+-- more links than room
 abbrev pub noLinkRoom : ℕ
 noLinkRoom = 3
 
+-- more kept parameters than room
 abbrev pub noParamRoom : ℕ
 noParamRoom = 4
 
+-- the table is not good
 abbrev pub badTable : ℕ
 badTable = 5
 
+-- a link to be written has no `rel`, or one with no relations
 abbrev pub noRelation : ℕ
 noRelation = 6
 
+-- the output buffer is shorter than the result
 abbrev pub noOutputRoom : ℕ
 noOutputRoom = 7
 
+-- the link number is not below the count
 abbrev pub noSuchLink : ℕ
 noSuchLink = 8
 
+-- no such parameter, or no link has the relation
 abbrev pub notFound : ℕ
 notFound = 9
 

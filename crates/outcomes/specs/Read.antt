@@ -1,13 +1,13 @@
 -- Reading a header into lent tables. The numbers come in the order 1, 2, 3, 4.
-use Prim.Native.Nat.{ℕ, _*_, _/_, _≤_, _<_}
+use Prim.Native.Nat.{ℕ, _*_, _≤_, _<_}
 use mathlib.Core.List.{List, _++_}
 use lib.ListN.{length, drop}
 use Rattle.grammar.specs.Link.{Link}
 use Rattle.grammar.specs.Grammar.{rfc8288}
 use Rattle.grammar.specs.Kept.{Reading}
-use Rattle.grammar.specs.Records.{paramCount, linkRecords, paramRecords}
+use Rattle.grammar.specs.Records.{linkRoom, paramRoom, countParams, linkRecords, paramRecords}
 use Rattle.grammar.specs.Place.{Malformed, Place}
-use Rattle.outcomes.specs.Number.{limit, done, tooLong, malformed, noLinkRoom, noParamRoom}
+use Rattle.outcomes.specs.Number.{limit, done, tooLong, malformedHeader, noLinkRoom, noParamRoom}
 
 -- the four numbers answered, and what both tables hold afterwards
 pub record ReadOut : Type 0 where
@@ -18,26 +18,26 @@ pub record ReadOut : Type 0 where
   pub linkSlots : List ℕ
   pub paramSlots : List ℕ
 
+-- of tables that held L and P: a refusal answers zero in every other number, except the place with number 2, and leaves them so
+abbrev pub refused : List ℕ → List ℕ → ℕ → ℕ → ReadOut
+refused L P n k = record { number = n; place = k; links = 0; params = 0; linkSlots = L; paramSlots = P }
+
+-- they hold the records of the links K, and behind them what the slots held
+abbrev pub filled : List ℕ → List ℕ → List Link → ReadOut
+filled L P K =
+    record {
+      number = done; place = 0; links = length K; params = countParams K;
+      linkSlots = linkRecords 0 K ++ drop (4 * length K) L; paramSlots = paramRecords K ++ drop (5 * countParams K) P
+    }
+
 -- the header h, with tables that hold L and P
 module _ (h L P : List ℕ) where
-  -- a refusal answers zero in every other number, except the place with number 2, and leaves the tables as they were
-  abbrev pub refused : ℕ → ℕ → ReadOut
-  refused n k = record { number = n; place = k; links = 0; params = 0; linkSlots = L; paramSlots = P }
-
-  -- the records of the links K, and behind them what the slots held
-  abbrev pub filled : List Link → ReadOut
-  filled K =
-      record {
-        number = done; place = 0; links = length K; params = paramCount K;
-        linkSlots = linkRecords 0 K ++ drop (4 * length K) L; paramSlots = paramRecords K ++ drop (5 * paramCount K) P
-      }
-
   pub data Read : ReadOut → Type 0 where
-    too-long : limit < length h → Read (refused tooLong 0)
-    not-derived : {k : ℕ} → length h ≤ limit → Malformed rfc8288 h → Place rfc8288 h k → Read (refused malformed k)
-    no-link-room : {K : List Link} → length h ≤ limit → Reading rfc8288 h K → length L / 4 < length K
-        → Read (refused noLinkRoom 0)
-    no-param-room : {K : List Link} → length h ≤ limit → Reading rfc8288 h K → length K ≤ length L / 4
-        → length P / 5 < paramCount K → Read (refused noParamRoom 0)
-    reads : {K : List Link} → length h ≤ limit → Reading rfc8288 h K → length K ≤ length L / 4 → paramCount K ≤ length P / 5
-        → Read (filled K)
+    too-long : limit < length h → Read (refused L P tooLong 0)
+    not-derived : {k : ℕ} → length h ≤ limit → Malformed rfc8288 h → Place rfc8288 h k → Read (refused L P malformedHeader k)
+    no-link-room : {K : List Link} → length h ≤ limit → Reading rfc8288 h K → linkRoom L < length K
+        → Read (refused L P noLinkRoom 0)
+    no-param-room : {K : List Link} → length h ≤ limit → Reading rfc8288 h K → length K ≤ linkRoom L
+        → paramRoom P < countParams K → Read (refused L P noParamRoom 0)
+    reads : {K : List Link} → length h ≤ limit → Reading rfc8288 h K → length K ≤ linkRoom L → countParams K ≤ paramRoom P
+        → Read (filled L P K)

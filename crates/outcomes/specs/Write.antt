@@ -9,23 +9,27 @@ use Rattle.tables.specs.Relation.{relations}
 use Rattle.tables.specs.Written.{written}
 use Rattle.outcomes.specs.Number.{limit, tooLong, noRelation, noOutputRoom}
 use Rattle.outcomes.specs.Usable.{Refused, Usable}
-use Rattle.outcomes.specs.Value.{CopyOut, untouched, holding}
+use Rattle.outcomes.specs.Copy.{CopyOut, untouched, holding}
+
+-- the written form of a table
+abbrev pub writtenForm : Table → List ℕ
+writtenForm t = written (tableMeanings t)
+
+-- the relations of link number i
+abbrev pub relationsAt : Table → ℕ → List (List ℕ)
+relationsAt t i = relations (t .text) (linkAt (t .linkSlots) (t .paramSlots) i)
+
+-- every link has a relation
+abbrev pub Related : Table → Type 0
+Related t = (i : ℕ) → i < t .linkCount → relationsAt t i ≡ [] → ⊥
 
 -- the table t, and a buffer that holds `out`
 module _ (t : Table) (out : List ℕ) where
-  abbrev pub form : List ℕ
-  form = written (tableMeanings t)
-
-  abbrev pub relationsAt : ℕ → List (List ℕ)
-  relationsAt i = relations (t .text) (linkAt (t .linkSlots) (t .paramSlots) i)
-
-  -- every link has a relation
-  abbrev pub Related : Type 0
-  Related = (i : ℕ) → i < t .linkCount → relationsAt i ≡ [] → ⊥
-
   pub data Write : CopyOut → Type 0 where
     refused : {n : ℕ} → Refused t n → Write (untouched out n)
-    no-relation : {i : ℕ} → Usable t → i < t .linkCount → relationsAt i ≡ [] → Write (untouched out noRelation)
-    long-form : Usable t → Related → limit < length form → Write (untouched out tooLong)
-    no-room : Usable t → Related → length form ≤ limit → length out < length form → Write (untouched out noOutputRoom)
-    wrote : Usable t → Related → length form ≤ limit → length form ≤ length out → Write (holding out form)
+    no-relation : {i : ℕ} → Usable t → i < t .linkCount → relationsAt t i ≡ [] → Write (untouched out noRelation)
+    long-form : Usable t → Related t → limit < length (writtenForm t) → Write (untouched out tooLong)
+    no-room : Usable t → Related t → length (writtenForm t) ≤ limit → length out < length (writtenForm t)
+        → Write (untouched out noOutputRoom)
+    wrote : Usable t → Related t → length (writtenForm t) ≤ limit → length (writtenForm t) ≤ length out
+        → Write (holding out (writtenForm t))

@@ -8,7 +8,7 @@ use lib.Dec.{eqb}
 use lib.ListN.{length, drop}
 use lib.Seq.{slice}
 use borrow.Author.Tests.{eqb-true}
-use Rattle.octets.specs.Sets.{isBlank, isToken, isEscapable}
+use Rattle.octets.specs.Sets.{all, isBlank, isToken, isEscapable}
 use Rattle.octets.specs.Fold.{folded}
 use Rattle.octets.proofs.Octets.{both}
 use Rattle.grammar.specs.Link.{Link, Param}
@@ -18,7 +18,6 @@ use Rattle.grammar.specs.Grammar.{
   Parameter, valued, Parameters, no-more, and-one, OneLink, link, empty, one, Items, last, comma, Field
 }
 use Rattle.grammar.specs.Kept.{nameOf}
-use Rattle.grammar.specs.Join.{all}
 use Rattle.grammar.proofs.Exact.{left-none}
 use Rattle.tables.specs.Good.{Each, each-none, each-more}
 use Rattle.tables.specs.Meaning.{
@@ -169,7 +168,7 @@ module _ (t : List ℕ) where
       let params = params-back ys (suc (target .stop)) (ok .params) (close .inside) (close .left) in
       record {
         stop = params .stop;
-        link = record { from = suc i; to = target .stop; params = params .params };
+        link = record { targetFrom = suc i; targetTo = target .stop; params = params .params };
         derived = Grammar.link (at t start) (target .derived) (at t close) (params .derived);
         inside = params .inside; left = params .left;
         means = ap₂ (λ x y. record { target = x; params = y }) (target .spelt) (params .means)

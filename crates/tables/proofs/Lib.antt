@@ -1,5 +1,9 @@
 -- The laws of tables, meanings and the written form.
 pub mod Texts
 pub mod Spelt
+pub mod Queries
 pub mod Back
 pub mod ReadBack
+pub mod Filled
+pub mod FromReading
+pub mod Decide

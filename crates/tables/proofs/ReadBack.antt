@@ -1,25 +1,27 @@
 -- Reading back: what is written for a good table is derived again, keeps all its parameters, and means the same.
-use Prim.Native.Nat.{ℕ, suc, _≤_, _<_}
+use Prim.Native.Nat.{ℕ, zero, suc, _+_, _≤_, _<_}
+use native.Mathlib.Nat.{zero-add}
 use native.Mathlib.Omega.{arith}
 use mathlib.Core.Path.{_≡_, refl, sym, ap, ap₂, subst, _∙_}
 use mathlib.Core.Bool.{Bool, true, false, cond, _&&_, not, false≢true}
 use mathlib.Core.List.{List, [], _∷_, map}
 use lib.Dec.{eqb}
-use lib.ListN.{length, getD}
+use lib.ListN.{length, getD, length-map}
 use lib.Seq.{slice, slice-empty, slice-cons}
-use Rattle.octets.specs.Sets.{isToken, isEscapable}
+use Rattle.octets.specs.Sets.{all, isToken, isEscapable}
 use Rattle.octets.specs.Fold.{fold, folded}
 use Rattle.octets.proofs.Laws.{fold-fold, fold-token, token-plain, plain-escapable}
 use Rattle.octets.proofs.Octets.{both}
 use Rattle.grammar.specs.Link.{Link, Param}
 use Rattle.grammar.specs.Grammar.{rfc8288, Token, Run, run-end, run-more}
 use Rattle.grammar.specs.Kept.{nameOf, among, isOnce, unless, keepAfter, keptLink, Reading}
-use Rattle.grammar.specs.Join.{all}
+use Rattle.grammar.specs.Records.{countParams}
 use Rattle.grammar.proofs.Readings.{one-reading}
 use Rattle.grammar.proofs.Editions.{apart8288}
-use Rattle.tables.specs.Table.{Table}
+use Rattle.tables.specs.Table.{Table, paramsFrom, firstOf, countOf, linksFrom, linksOf}
 use Rattle.tables.specs.Good.{
-  Each, each-none, each-more, onceEach, Span, GoodValue, no-value, token-value, quoted-value, GoodParam, GoodLink, Good
+  Each, each-none, each-more, onceEach, Span, GoodValue, no-value, token-value, quoted-value, GoodParam, GoodLink, Good,
+  Follows
 }
 use Rattle.tables.specs.Meaning.{
   unescape, unescapeFrom, valueOf, ParamMeaning, paramMeaning, LinkMeaning, linkMeaning, meanings, tableMeanings
@@ -112,8 +114,32 @@ module _ (s : List ℕ) where
   unfolding Once
   keeps-all [] each-none = refl
   keeps-all (l ∷ ls) (each-more o r) =
-      ap₂ (λ (ps : List Param) (ms : List Link). record { from = l .from; to = l .to; params = ps } ∷ ms)
+      ap₂ (λ (ps : List Param) (ms : List Link). record { targetFrom = l .targetFrom; targetTo = l .targetTo; params = ps } ∷ ms)
       (keeps [] (l .params) (sym (once-meanings [] (l .params)) ∙ o)) (keeps-all ls r)
+
+-- ---- the counts
+
+links-length : (L P : List ℕ) (i n : ℕ) → length (linksFrom L P i n) ≡ n
+links-length L P i zero = refl
+links-length L P i (suc n) = ap suc (links-length L P (suc i) n)
+
+params-length : (P : List ℕ) (j n : ℕ) → length (paramsFrom P j n) ≡ n
+params-length P j zero = refl
+params-length P j (suc n) = ap suc (params-length P (suc j) n)
+
+followed : (L P : List ℕ) (i n at m : ℕ) → Follows L i n at m → at + countParams (linksFrom L P i n) ≡ m
+followed L P i zero at m f = omega arith
+followed L P i (suc n) at m f =
+    omega (arith, params-length P (firstOf L i) (countOf L i), followed L P (suc i) n (at + countOf L i) m (f .1))
+
+countOfMeanings : List LinkMeaning → ℕ
+countOfMeanings [] = 0
+countOfMeanings (m ∷ ms) = length (m .params) + countOfMeanings ms
+
+count-meant : (s : List ℕ) (ls : List Link) → countOfMeanings (meanings s ls) ≡ countParams ls
+unfolding countOfMeanings
+count-meant s [] = refl
+count-meant s (l ∷ ls) = rw (length-map (l .params) (paramMeaning s), count-meant s ls)
 
 pub read-back : ReadBack
 read-back t g =
@@ -126,7 +152,7 @@ read-back t g =
       links = b .links;
       reads =
           record {
-            all = b .links;
+            links = b .links;
             derived =
                 record {
                   start = 0; stop = b .stop; end = b .stop; before = run-end; items = b .derived; after = run-end;
@@ -134,6 +160,12 @@ read-back t g =
                 };
             kept = sym (keeps-all (written ms) (b .links) once)
           };
+      link-count =
+          sym (length-map (b .links) (linkMeaning (written ms))) ∙ ap length (b .means)
+          ∙ length-map (linksOf t) (linkMeaning (t .text)) ∙ links-length (t .linkSlots) (t .paramSlots) 0 (t .linkCount);
+      param-count =
+          sym (count-meant (written ms) (b .links)) ∙ ap countOfMeanings (b .means) ∙ count-meant (t .text) (linksOf t)
+          ∙ sym (zero-add _) ∙ followed (t .linkSlots) (t .paramSlots) 0 (t .linkCount) 0 (t .paramCount) (g .follows);
       same-meanings = b .means
     }
 

@@ -8,13 +8,12 @@ use lib.Dec.{eqb}
 use lib.ListN.{length, drop, getD}
 use lib.Seq.{slice, slice-empty, slice-cons}
 use borrow.Author.Tests.{eqb-true}
-use Rattle.octets.specs.Sets.{isEscapable, isPlain, isTarget, isHex}
+use Rattle.octets.specs.Sets.{all, isEscapable, isPlain, isTarget, isHex}
 use Rattle.octets.proofs.Laws.{escapable-plain}
 use Rattle.octets.proofs.Octets.{both}
 use Rattle.grammar.specs.Grammar.{
   In, At, Run, run-end, run-more, Some, Inside, inside-end, plain, pair, Target, target-end, octet, triple
 }
-use Rattle.grammar.specs.Join.{all}
 use Rattle.grammar.proofs.Exact.{left-some}
 use Rattle.tables.specs.Written.{escape, escapeOctet}
 use Rattle.tables.proofs.Texts.{TargetText, target-none, target-octet, target-triple}

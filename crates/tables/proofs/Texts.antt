@@ -7,12 +7,11 @@ use mathlib.Core.List.{List, [], _∷_}
 use lib.Dec.{eqb}
 use lib.ListN.{length, getD}
 use lib.Seq.{slice, slice-empty, slice-cons}
-use Rattle.octets.specs.Sets.{isToken, isPlain, isEscapable, isTarget, isHex}
+use Rattle.octets.specs.Sets.{all, isToken, isPlain, isEscapable, isTarget, isHex}
 use Rattle.octets.proofs.Laws.{plain-escapable}
 use Rattle.grammar.specs.Grammar.{
   In, At, Run, run-end, run-more, Inside, inside-end, plain, pair, Target, target-end, octet, triple
 }
-use Rattle.grammar.specs.Join.{all}
 use Rattle.grammar.proofs.Classes.{plain-not-backslash}
 use Rattle.tables.specs.Meaning.{unescapeFrom}
 
@@ -34,12 +33,12 @@ module _ (s : List ℕ) where
   run-le run-end = omega arith
   run-le (run-more c r) = omega (arith, run-le r)
 
-  inside-le : {i j : ℕ} → Inside s i j → i ≤ j
+  pub inside-le : {i j : ℕ} → Inside s i j → i ≤ j
   inside-le inside-end = omega arith
   inside-le (plain c r) = omega (arith, inside-le r)
   inside-le (pair b c r) = omega (arith, inside-le r)
 
-  target-le : {i j : ℕ} → Target s i j → i ≤ j
+  pub target-le : {i j : ℕ} → Target s i j → i ≤ j
   target-le target-end = omega arith
   target-le (octet c r) = omega (arith, target-le r)
   target-le (triple p a b r) = omega (arith, target-le r)

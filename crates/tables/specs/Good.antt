@@ -1,5 +1,6 @@
--- A good table, clause by clause. It need not come from reading: spans may overlap or stand out of order.
-use Prim.Native.Nat.{ℕ, zero, suc, _+_, _/_, _≤_}
+-- A good table, clause by clause. It need not come from reading: spans may overlap or stand out of order, and nothing is asked of
+-- the octets round a span.
+use Prim.Native.Nat.{ℕ, zero, suc, _+_, _≤_}
 use mathlib.Core.Path.{_≡_}
 use mathlib.Core.Bool.{Bool, true, _&&_, not}
 use mathlib.Core.List.{List, [], _∷_}
@@ -7,6 +8,7 @@ use lib.ListN.{length}
 use Rattle.grammar.specs.Link.{Link, Param}
 use Rattle.grammar.specs.Grammar.{Token, Inside, Target}
 use Rattle.grammar.specs.Kept.{nameOf, among, isOnce}
+use Rattle.grammar.specs.Records.{linkRoom, paramRoom}
 use Rattle.tables.specs.Table.{Table, firstOf, countOf, linksOf}
 
 -- every element of a list
@@ -15,7 +17,8 @@ pub data Each {A : Type 0} (P : A → Type 0) : List A → Type 0 where
   each-more : {x : A} {xs : List A} → P x → Each P xs → Each P (x ∷ xs)
 
 -- of n links from number i on, the first link's parameters begin at number `at`, each later link's where the former's end,
--- and the last ends at m; the sums are of numbers, so that none wraps
+-- and the last ends at m (with no links `at` is m, so that a table of no links has no parameters); the sums are of numbers, so that
+-- none wraps
 abbrev pub Follows : List ℕ → ℕ → ℕ → ℕ → ℕ → Type 0
 Follows L i zero at m = at ≡ m
 Follows L i (suc n) at m = (firstOf L i ≡ at) × Follows L (suc i) n (at + countOf L i) m
@@ -32,26 +35,29 @@ module _ (s : List ℕ) where
     pub ordered : a ≤ e
     pub inside : e ≤ length s
 
-  -- the value obeys the grammar for its form, and with form 0 both value places equal the name end
+  -- every form is 0, 1 or 2; the value obeys the grammar for its form; with form 0 both value places equal the name end
   pub data GoodValue (p : Param) : Type 0 where
     no-value : p .form ≡ 0 → p .valueFrom ≡ p .nameTo → p .valueTo ≡ p .nameTo → GoodValue p
     token-value : p .form ≡ 1 → Token s (p .valueFrom) (p .valueTo) → GoodValue p
     quoted-value : p .form ≡ 2 → Inside s (p .valueFrom) (p .valueTo) → GoodValue p
 
+  -- both spans lie in the text, and the name and the value obey the grammar
   pub record GoodParam (p : Param) : Type 0 where
     pub name-span : Span (p .nameFrom) (p .nameTo)
     pub value-span : Span (p .valueFrom) (p .valueTo)
     pub name : Token s (p .nameFrom) (p .nameTo)
     pub value : GoodValue p
 
+  -- the target's span lies in the text and obeys the grammar, so do the parameters, and no two share one of the six names
   pub record GoodLink (l : Link) : Type 0 where
-    pub target-span : Span (l .from) (l .to)
-    pub target : Target s (l .from) (l .to)
+    pub target-span : Span (l .targetFrom) (l .targetTo)
+    pub target : Target s (l .targetFrom) (l .targetTo)
     pub params : Each GoodParam (l .params)
     pub once : onceEach s [] (l .params) ≡ true
 
+-- the counts fit the rooms, the links' parameters follow one another, and each link is good
 pub record Good (t : Table) : Type 0 where
-  pub link-room : t .linkCount ≤ length (t .linkSlots) / 4
-  pub param-room : t .paramCount ≤ length (t .paramSlots) / 5
+  pub link-room : t .linkCount ≤ linkRoom (t .linkSlots)
+  pub param-room : t .paramCount ≤ paramRoom (t .paramSlots)
   pub follows : Follows (t .linkSlots) 0 (t .linkCount) 0 (t .paramCount)
   pub links : Each (GoodLink (t .text)) (linksOf t)

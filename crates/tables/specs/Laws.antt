@@ -1,23 +1,52 @@
 -- What is proved of tables, meanings and the written form.
+use Prim.Native.Nat.{ℕ}
 use mathlib.Core.Path.{_≡_}
-use mathlib.Core.List.{List}
+use mathlib.Core.Logic.{_⊎_}
+use mathlib.Core.Bool.{true, false}
+use mathlib.Core.List.{List, [], _++_}
 use lib.ListN.{length}
+use Rattle.octets.specs.Sets.{oneOf}
 use Rattle.grammar.specs.Link.{Link}
 use Rattle.grammar.specs.Grammar.{rfc8288}
 use Rattle.grammar.specs.Kept.{Reading}
-use Rattle.tables.specs.Table.{Table}
+use Rattle.grammar.specs.Records.{linkRecords, paramRecords, countParams}
+use Rattle.tables.specs.Table.{Table, linksOf}
 use Rattle.tables.specs.Good.{Good}
 use Rattle.tables.specs.Meaning.{meanings, tableMeanings}
+use Rattle.tables.specs.Relation.{hasRelation}
 use Rattle.tables.specs.Written.{written}
+
+-- an empty query, or one with an SP, matches nothing
+abbrev pub NoQuery : Type 0
+NoQuery =
+    (s q : List ℕ) (l : Link) → (q ≡ []) ⊎ (oneOf q 32 ≡ true) → hasRelation s q l ≡ false
 
 -- whether a table is good is decided
 abbrev pub GoodDecided : Type 0
 GoodDecided = (t : Table) → Dec (Good t)
 
--- reading back: the written form of a good table reads to the same list of link meanings
+-- the table that reading fills with the links K: their records, and behind them what the slots held
+abbrev pub filledTable : List ℕ → List Link → List ℕ → List ℕ → Table
+filledTable h K X Y =
+    record {
+      text = h; linkSlots = linkRecords 0 K ++ X; paramSlots = paramRecords K ++ Y; linkCount = length K;
+      paramCount = countParams K
+    }
+
+-- what is read is a good table, and its links are those of the reading
+pub record ReadTable (h : List ℕ) (K : List Link) (X Y : List ℕ) : Type 0 where
+  pub good : Good (filledTable h K X Y)
+  pub same-links : linksOf (filledTable h K X Y) ≡ K
+
+abbrev pub ReadGood : Type 0
+ReadGood = (h : List ℕ) (K : List Link) (X Y : List ℕ) → Reading rfc8288 h K → ReadTable h K X Y
+
+-- reading back: the written form of a good table reads to the same counts and an equal list of link meanings
 pub record ReadsBack (t : Table) : Type 0 where
   pub links : List Link
   pub reads : Reading rfc8288 (written (tableMeanings t)) links
+  pub link-count : length links ≡ t .linkCount
+  pub param-count : countParams links ≡ t .paramCount
   pub same-meanings : meanings (written (tableMeanings t)) links ≡ tableMeanings t
 
 abbrev pub ReadBack : Type 0

@@ -29,13 +29,14 @@ pub record ParamMeaning : Type 0 where
 abbrev pub paramMeaning : List ℕ → Param → ParamMeaning
 paramMeaning s p = record { name = nameOf s p; value = valueOf s p }
 
--- the meaning of a link: its target octets and its parameters' meanings in order
+-- the meaning of a link: its target octets and the meanings of its parameters in order (in a reading those that are kept, in a
+-- table those that it records)
 pub record LinkMeaning : Type 0 where
   pub target : List ℕ
   pub params : List ParamMeaning
 
 abbrev pub linkMeaning : List ℕ → Link → LinkMeaning
-linkMeaning s l = record { target = slice (l .from) (l .to) s; params = map (paramMeaning s) (l .params) }
+linkMeaning s l = record { target = slice (l .targetFrom) (l .targetTo) s; params = map (paramMeaning s) (l .params) }
 
 abbrev pub meanings : List ℕ → List Link → List LinkMeaning
 meanings s ls = map (linkMeaning s) ls

@@ -15,18 +15,19 @@ abbrev pub named : List ℕ → List ℕ → List Param → Option Param
 named s n [] = none
 named s n (p ∷ ps) = elim (same (nameOf s p) n) [ true ↦ some p | false ↦ named s n ps ]
 
--- the octet c in front of pieces: SP parts, any other octet lengthens the first piece
+-- the octet c in front of the first piece
 abbrev pub lengthen : ℕ → List (List ℕ) → List (List ℕ)
 lengthen c [] = (c ∷ []) ∷ []
 lengthen c (w ∷ ws) = (c ∷ w) ∷ ws
 
-abbrev pub part : ℕ → List (List ℕ) → List (List ℕ)
-part c ws = elim (eqb c 32) [ true ↦ [] ∷ ws | false ↦ lengthen c ws ]
+-- the octet c in front of pieces: SP begins a new piece, any other octet lengthens the first
+abbrev pub splitAt : ℕ → List (List ℕ) → List (List ℕ)
+splitAt c ws = elim (eqb c 32) [ true ↦ [] ∷ ws | false ↦ lengthen c ws ]
 
--- what stands between the SPs, empty pieces too
+-- what stands between SPs, empty pieces too (HTAB and every other octet are part of a piece)
 abbrev pub pieces : List ℕ → List (List ℕ)
 pieces [] = [] ∷ []
-pieces (c ∷ cs) = part c (pieces cs)
+pieces (c ∷ cs) = splitAt c (pieces cs)
 
 abbrev pub nonEmpty : List (List ℕ) → List (List ℕ)
 nonEmpty [] = []

@@ -35,7 +35,7 @@ countOf L i = getD L (4 * i + 3) 0
 -- link number i, with the parameters that the table records for it
 abbrev pub linkAt : List ℕ → List ℕ → ℕ → Link
 linkAt L P i =
-    record { from = getD L (4 * i) 0; to = getD L (4 * i + 1) 0; params = paramsFrom P (firstOf L i) (countOf L i) }
+    record { targetFrom = getD L (4 * i) 0; targetTo = getD L (4 * i + 1) 0; params = paramsFrom P (firstOf L i) (countOf L i) }
 
 -- n links from number i on
 abbrev pub linksFrom : List ℕ → List ℕ → ℕ → ℕ → List Link

@@ -3,8 +3,7 @@ use Prim.Native.Nat.{ℕ}
 use mathlib.Core.Bool.{Bool, true, false, cond, _||_}
 use mathlib.Core.List.{List, [], _∷_, _++_}
 use lib.Dec.{eqb}
-use Rattle.octets.specs.Sets.{isToken}
-use Rattle.grammar.specs.Join.{all}
+use Rattle.octets.specs.Sets.{all, isToken}
 use Rattle.tables.specs.Meaning.{ParamMeaning, LinkMeaning}
 
 -- the text is a token
@@ -24,7 +23,7 @@ escape (c ∷ cs) = escapeOctet c (escape cs)
 unfoldable pub writtenValue : List ℕ → List ℕ
 writtenValue v = cond (isTokenText v) v (34 ∷ escape v ++ 34 ∷ [])
 
--- `;`, space, name, `=`, value
+-- `;`, space, folded name (a meaning's name is folded), `=`, value
 abbrev pub writtenParam : ParamMeaning → List ℕ
 writtenParam p = 59 ∷ 32 ∷ p .name ++ 61 ∷ writtenValue (p .value)
 

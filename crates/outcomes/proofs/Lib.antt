@@ -1,0 +1,9 @@
+-- Each outcome settles everything: for every entry there is one outcome, and no other.
+pub mod Cases
+pub mod First
+pub mod Usable
+pub mod ReadSettled
+pub mod SearchSettled
+pub mod ContextSettled
+pub mod CopySettled
+pub mod WriteSettled

@@ -1,0 +1,200 @@
+-- Whether a table is good is decided, clause by clause.
+use Prim.Native.Nat.{ℕ, zero, suc, _+_, _/_, _≤_, _<_}
+use native.Mathlib.Omega.{arith}
+use native.Mathlib.Decide.{map-dec, decLe, decLt, ℕ-discrete}
+use mathlib.Core.Path.{_≡_, refl, subst}
+use mathlib.Core.Bool.{Bool, true, Bool-discrete}
+use mathlib.Core.Logic.{_⊎_, inl, inr, ⊎-elim, Dec·and}
+use mathlib.Core.List.{List, [], _∷_}
+use lib.ListN.{length, getD}
+use Rattle.octets.specs.Sets.{isToken, isPlain, isEscapable, isTarget, isHex}
+use Rattle.grammar.specs.Link.{Link, Param}
+use Rattle.grammar.specs.Grammar.{At, In, Run, run-end, run-more, Token, Inside, inside-end, plain, pair}
+use Rattle.grammar.specs.Grammar.{Target, target-end, octet, triple}
+use Rattle.tables.specs.Table.{firstOf, countOf, linksOf}
+use Rattle.tables.specs.Good.{Each, each-none, each-more, Follows, onceEach, Span, GoodValue, no-value, token-value}
+use Rattle.tables.specs.Good.{quoted-value, GoodParam, GoodLink}
+use Rattle.tables.specs.Laws.{GoodDecided}
+
+either : {A B : Type 0} → Dec A → Dec B → Dec (A ⊎ B)
+either (yes a) b = yes (inl a)
+either (no n) (yes b) = yes (inr b)
+either (no n) (no m) = no (⊎-elim n m)
+
+module _ (s : List ℕ) where
+  in? : (f : ℕ → Bool) (i : ℕ) → Dec (In s f i)
+  in? f i =
+      map-dec (λ p. record { inside = p .0; is = p .1 }) (λ r. (r .inside, r .is))
+      (Dec·and (decLt i (length s)) (Bool-discrete (f (getD s i 0)) true))
+
+  at? : (c i : ℕ) → Dec (At s i c)
+  at? c i =
+      map-dec (λ p. record { inside = p .0; is = p .1 }) (λ r. (r .inside, r .is))
+      (Dec·and (decLt i (length s)) (ℕ-discrete (getD s i 0) c))
+
+  span? : (a e : ℕ) → Dec (Span s a e)
+  span? a e =
+      map-dec (λ p. record { ordered = p .0; inside = p .1 }) (λ r. (r .ordered, r .inside))
+      (Dec·and (decLe a e) (decLe e (length s)))
+
+  -- how a derivation X begins: with nothing, with an octet of f, or with B, behind which it goes on at `later`
+  abbrev Begun : (ℕ → Bool) → (ℕ → Type 0) → (ℕ → ℕ) → (ℕ → ℕ → Type 0) → ℕ → ℕ → Type 0
+  Begun f B later X i j = (i ≡ j) ⊎ (In s f i × X (suc i) j) ⊎ (B i × X (later i) j)
+
+  -- X is just what so begins
+  record Steps (f : ℕ → Bool) (B : ℕ → Type 0) (later : ℕ → ℕ) (X : ℕ → ℕ → Type 0) : Type 0 where
+    none : {i : ℕ} → X i i
+    next : {i j : ℕ} → In s f i → X (suc i) j → X i j
+    jump : {i j : ℕ} → B i → X (later i) j → X i j
+    begun : {i j : ℕ} → X i j → Begun f B later X i j
+    jumps? : (i : ℕ) → Dec (B i)
+    stands : {i : ℕ} → B i → i < length s
+    onward : (i : ℕ) → i < later i
+
+  module _ {f : ℕ → Bool} {B : ℕ → Type 0} {later : ℕ → ℕ} {X : ℕ → ℕ → Type 0} (st : Steps f B later X) where
+    made : {i j : ℕ} → Begun f B later X i j → X i j
+    made {i} (inl e) = subst (X i) e (st .none)
+    made (inr (inl p)) = st .next (p .0) (p .1)
+    made (inr (inr p)) = st .jump (p .0) (p .1)
+
+    -- by what is left of the text, at most n octets
+    derives? : (n i j : ℕ) → length s ≤ i + n → Dec (X i j)
+    derives? zero i j h = map-dec (λ e. made (inl e)) (λ x. ends (st .begun x)) (ℕ-discrete i j)
+      where
+        ends : Begun f B later X i j → i ≡ j
+        ends (inl e) = e
+        ends (inr (inl p)) = absurd (omega (arith, p .0 .inside))
+        ends (inr (inr p)) = absurd (omega (arith, st .stands (p .0)))
+    derives? (suc n) i j h =
+        map-dec made (st .begun)
+        (either (ℕ-discrete i j)
+        (either (Dec·and (in? f i) (derives? n (suc i) j (omega arith)))
+        (Dec·and (st .jumps? i) (derives? n (later i) j (omega (arith, st .onward i))))))
+
+    derived? : (i j : ℕ) → Dec (X i j)
+    derived? i j = derives? (length s) i j (omega arith)
+
+  token? : (i j : ℕ) → Dec (Token s i j)
+  token? i j =
+      map-dec (λ p. record { first = p .0; rest = p .1 }) (λ r. (r .first, r .rest))
+      (Dec·and (in? isToken i) (derived? steps (suc i) j))
+    where
+      begun : {i j : ℕ} → Run s isToken i j → Begun isToken (λ i. ⊥) suc (Run s isToken) i j
+      begun run-end = inl refl
+      begun (run-more a r) = inr (inl (a, r))
+
+      steps : Steps isToken (λ i. ⊥) suc (Run s isToken)
+      steps =
+          record {
+            none = run-end;
+            next = run-more;
+            jump = λ b r. absurd b;
+            begun = begun;
+            jumps? = λ i. no (λ b. b);
+            stands = λ b. absurd b;
+            onward = λ i. omega arith;
+          }
+
+  inside? : (i j : ℕ) → Dec (Inside s i j)
+  inside? = derived? steps
+    where
+      Pair : ℕ → Type 0
+      Pair i = At s i 92 × In s isEscapable (suc i)
+
+      begun : {i j : ℕ} → Inside s i j → Begun isPlain Pair (λ i. suc (suc i)) (Inside s) i j
+      begun inside-end = inl refl
+      begun (plain a r) = inr (inl (a, r))
+      begun (pair a b r) = inr (inr ((a, b), r))
+
+      steps : Steps isPlain Pair (λ i. suc (suc i)) (Inside s)
+      steps =
+          record {
+            none = inside-end;
+            next = plain;
+            jump = λ b r. pair (b .0) (b .1) r;
+            begun = begun;
+            jumps? = λ i. Dec·and (at? 92 i) (in? isEscapable (suc i));
+            stands = λ b. b .0 .inside;
+            onward = λ i. omega arith;
+          }
+
+  target? : (i j : ℕ) → Dec (Target s i j)
+  target? = derived? steps
+    where
+      Triple : ℕ → Type 0
+      Triple i = At s i 37 × (In s isHex (suc i) × In s isHex (suc (suc i)))
+
+      begun : {i j : ℕ} → Target s i j → Begun isTarget Triple (λ i. suc (suc (suc i))) (Target s) i j
+      begun target-end = inl refl
+      begun (octet a r) = inr (inl (a, r))
+      begun (triple a b c r) = inr (inr ((a, (b, c)), r))
+
+      steps : Steps isTarget Triple (λ i. suc (suc (suc i))) (Target s)
+      steps =
+          record {
+            none = target-end;
+            next = octet;
+            jump = λ b r. triple (b .0) (b .1 .0) (b .1 .1) r;
+            begun = begun;
+            jumps? = λ i. Dec·and (at? 37 i) (Dec·and (in? isHex (suc i)) (in? isHex (suc (suc i))));
+            stands = λ b. b .0 .inside;
+            onward = λ i. omega arith;
+          }
+
+  value? : (p : Param) → Dec (GoodValue s p)
+  value? p =
+      map-dec made split
+      (either (Dec·and (is 0) (Dec·and (ℕ-discrete (p .valueFrom) (p .nameTo)) (ℕ-discrete (p .valueTo) (p .nameTo))))
+      (either (Dec·and (is 1) (token? (p .valueFrom) (p .valueTo))) (Dec·and (is 2) (inside? (p .valueFrom) (p .valueTo)))))
+    where
+      is : (n : ℕ) → Dec (p .form ≡ n)
+      is = ℕ-discrete (p .form)
+
+      Cases : Type 0
+      Cases =
+          ((p .form ≡ 0) × ((p .valueFrom ≡ p .nameTo) × (p .valueTo ≡ p .nameTo)))
+          ⊎ ((p .form ≡ 1) × Token s (p .valueFrom) (p .valueTo)) ⊎ ((p .form ≡ 2) × Inside s (p .valueFrom) (p .valueTo))
+
+      made : Cases → GoodValue s p
+      made (inl c) = no-value (c .0) (c .1 .0) (c .1 .1)
+      made (inr (inl c)) = token-value (c .0) (c .1)
+      made (inr (inr c)) = quoted-value (c .0) (c .1)
+
+      split : GoodValue s p → Cases
+      split (no-value f a b) = inl (f, (a, b))
+      split (token-value f v) = inr (inl (f, v))
+      split (quoted-value f v) = inr (inr (f, v))
+
+  param? : (p : Param) → Dec (GoodParam s p)
+  param? p =
+      map-dec (λ q. record { name-span = q .0; value-span = q .1 .0; name = q .1 .1 .0; value = q .1 .1 .1 })
+      (λ g. (g .name-span, (g .value-span, (g .name, g .value))))
+      (Dec·and (span? (p .nameFrom) (p .nameTo))
+      (Dec·and (span? (p .valueFrom) (p .valueTo)) (Dec·and (token? (p .nameFrom) (p .nameTo)) (value? p))))
+
+each? : {A : Type 0} {P : A → Type 0} → ((x : A) → Dec (P x)) → (xs : List A) → Dec (Each P xs)
+each? d [] = yes each-none
+each? {A} {P} d (x ∷ xs) = map-dec (λ p. each-more (p .0) (p .1)) split (Dec·and (d x) (each? d xs))
+  where
+    split : Each P (x ∷ xs) → P x × Each P xs
+    split (each-more p ps) = (p, ps)
+
+link? : (s : List ℕ) (l : Link) → Dec (GoodLink s l)
+link? s l =
+    map-dec (λ q. record { target-span = q .0; target = q .1 .0; params = q .1 .1 .0; once = q .1 .1 .1 })
+    (λ g. (g .target-span, (g .target, (g .params, g .once))))
+    (Dec·and (span? s (l .targetFrom) (l .targetTo))
+    (Dec·and (target? s (l .targetFrom) (l .targetTo))
+    (Dec·and (each? (param? s) (l .params)) (Bool-discrete (onceEach s [] (l .params)) true))))
+
+follows? : (L : List ℕ) (i n at m : ℕ) → Dec (Follows L i n at m)
+follows? L i zero at m = ℕ-discrete at m
+follows? L i (suc n) at m = Dec·and (ℕ-discrete (firstOf L i) at) (follows? L (suc i) n (at + countOf L i) m)
+
+pub good-decided : GoodDecided
+good-decided t =
+    map-dec (λ q. record { link-room = q .0; param-room = q .1 .0; follows = q .1 .1 .0; links = q .1 .1 .1 })
+    (λ g. (g .link-room, (g .param-room, (g .follows, g .links))))
+    (Dec·and (decLe (t .linkCount) (length (t .linkSlots) / 4))
+    (Dec·and (decLe (t .paramCount) (length (t .paramSlots) / 5))
+    (Dec·and (follows? (t .linkSlots) 0 (t .linkCount) 0 (t .paramCount)) (each? (link? (t .text)) (linksOf t)))))
