@@ -1,0 +1,187 @@
+-- What entries answer to one another's results.
+use Prim.Native.Nat.{ℕ, _+_, _*_, _≤_}
+use native.Mathlib.Omega.{arith}
+use mathlib.Core.Path.{_≡_, refl, sym, ap, ap₂, subst, subst₂, _∙_}
+use mathlib.Core.List.{List, [], _∷_, _++_, map}
+use lib.ListN.{length, take, drop}
+use lib.Seq.{take-at, take-append-seam}
+use Rattle.grammar.specs.Link.{Link}
+use Rattle.grammar.specs.Grammar.{rfc8288}
+use Rattle.grammar.specs.Kept.{Reading}
+use Rattle.grammar.specs.Records.{linkRoom, paramRoom, linkRecords, paramRecords, countParams}
+use Rattle.grammar.specs.Place.{Malformed}
+use Rattle.grammar.specs.Join
+use Rattle.grammar.specs.Join.{Padded, padded, join, raiseLinks, raiseParams, Readable}
+use Rattle.grammar.proofs.Editions.{apart8288}
+use Rattle.grammar.proofs.Joined.{joins-malformed}
+use Rattle.grammar.proofs.Joining.{joins}
+use Rattle.tables.specs.Table.{Table}
+use Rattle.tables.specs.Good.{Good}
+use Rattle.tables.specs.Meaning.{meanings, tableMeanings}
+use Rattle.tables.proofs.Filled.{link-records-length, param-records-length}
+use Rattle.tables.proofs.FromReading.{read-good}
+use Rattle.tables.proofs.ReadBack.{read-back, written-tells}
+use Rattle.outcomes.specs.Number.{limit, done, malformedHeader}
+use Rattle.outcomes.specs.Usable.{Refused, long-text, not-good}
+use Rattle.outcomes.specs.Read.{ReadOut, filled, Read, too-long, not-derived, no-link-room, no-param-room, reads}
+use Rattle.outcomes.specs.Copy.{CopyOut}
+use Rattle.outcomes.specs.Write.{Write, writtenForm, refused, no-relation, long-form, no-room, wrote}
+use Rattle.laws.specs.Answers.{
+  ReadAlone, Accepted, joinOf, linksOf, paramsOf, linkSum, paramSum, joinedLinks, joinedParams, JoinAnswers, JoinRefuses
+}
+use Rattle.laws.specs.Answers.{Wrote, octetsOf, readTable, BackAnswers, WrittenApart}
+
+-- ---- what an answer tells of the input
+
+-- reading answered 0: the header has a reading, and its records are filled in
+record Filled (h L P : List ℕ) (out : ReadOut) : Type 0 where
+  links : List Link
+  reading : Reading rfc8288 h links
+  is : out ≡ filled L P links
+
+read-done : {h L P : List ℕ} {out : ReadOut} → Read h L P out → out .number ≡ done → Filled h L P out
+read-done (too-long l) e = absurd (omega arith)
+read-done (not-derived s m p) e = absurd (omega arith)
+read-done (no-link-room s r l) e = absurd (omega arith)
+read-done (no-param-room s r l m) e = absurd (omega arith)
+read-done (reads {K = K} s r l m) e = record { links = K; reading = r; is = refl }
+
+read-malformed : {h L P : List ℕ} {out : ReadOut} → Read h L P out → out .number ≡ malformedHeader → Malformed rfc8288 h
+read-malformed (too-long l) e = absurd (omega arith)
+read-malformed (not-derived s m p) e = m
+read-malformed (no-link-room s r l) e = absurd (omega arith)
+read-malformed (no-param-room s r l m) e = absurd (omega arith)
+read-malformed (reads s r l m) e = absurd (omega arith)
+
+-- ---- joining
+
+-- the header with its reading
+readable : Accepted → Readable rfc8288
+readable a =
+    let f = read-done (a .alone .answered) (a .accepted) in
+    record { pad = a .alone .pad; reading = f .links; reads = f .reading }
+
+-- the counts and the records answered are those of the reading
+record Agrees (a : Accepted) (K : List Link) : Type 0 where
+  link-count : a .alone .out .links ≡ length K
+  param-count : a .alone .out .params ≡ countParams K
+  link-records : linksOf a ≡ linkRecords 0 K
+  param-records : paramsOf a ≡ paramRecords K
+
+agrees : (a : Accepted) → Agrees a (readable a .reading)
+unfolding readable
+agrees a =
+    let f = read-done (a .alone .answered) (a .accepted) in
+    let K = f .links in
+    record {
+      link-count = ap (λ (o : ReadOut). o .links) (f .is);
+      param-count = ap (λ (o : ReadOut). o .params) (f .is);
+      link-records =
+          ap (λ (o : ReadOut). take (4 * o .links) (o .linkSlots)) (f .is)
+          ∙ take-at (linkRecords 0 K) _ (4 * length K) (link-records-length 0 K);
+      param-records =
+          ap (λ (o : ReadOut). take (5 * o .params) (o .paramSlots)) (f .is)
+          ∙ take-at (paramRecords K) _ (5 * countParams K) (param-records-length K)
+    }
+
+same-pads : (hs : List Accepted)
+    → map (λ (r : Readable rfc8288). r .pad) (map readable hs) ≡ map (λ (a : Accepted). a .alone .pad) hs
+unfolding readable
+same-pads [] = refl
+same-pads (a ∷ hs) = ap (λ (ps : List Padded). a .alone .pad ∷ ps) (same-pads hs)
+
+same-link-sum : (hs : List Accepted) → Join.linkSum rfc8288 (map readable hs) ≡ linkSum hs
+same-link-sum [] = refl
+same-link-sum (a ∷ hs) = ap₂ (λ (x y : ℕ). x + y) (sym (agrees a .link-count)) (same-link-sum hs)
+
+same-param-sum : (hs : List Accepted) → Join.paramSum rfc8288 (map readable hs) ≡ paramSum hs
+same-param-sum [] = refl
+same-param-sum (a ∷ hs) = ap₂ (λ (x y : ℕ). x + y) (sym (agrees a .param-count)) (same-param-sum hs)
+
+same-links : (k m : ℕ) (hs : List Accepted) → Join.joinedLinks rfc8288 k m (map readable hs) ≡ joinedLinks k m hs
+unfolding readable
+same-links k m [] = refl
+same-links k m (a ∷ hs) =
+    ap₂ (λ (x y : List ℕ). x ++ y) (ap (raiseLinks (k + length (a .alone .pad .left)) m) (sym (agrees a .link-records)))
+    (ap (λ (n : ℕ). Join.joinedLinks rfc8288 (k + length (padded (a .alone .pad)) + 1) (m + n) (map readable hs))
+    (sym (agrees a .param-count))
+    ∙ same-links (k + length (padded (a .alone .pad)) + 1) (m + a .alone .out .params) hs)
+
+same-params : (k : ℕ) (hs : List Accepted) → Join.joinedParams rfc8288 k (map readable hs) ≡ joinedParams k hs
+unfolding readable
+same-params k [] = refl
+same-params k (a ∷ hs) =
+    ap₂ (λ (x y : List ℕ). x ++ y) (ap (raiseParams (k + length (a .alone .pad .left))) (sym (agrees a .param-records)))
+    (same-params (k + length (padded (a .alone .pad)) + 1) hs)
+
+pub join-answers : JoinAnswers
+join-answers hs L P short links params =
+    let j = joins rfc8288 apart8288 (map readable hs) in
+    let reading : Reading rfc8288 (joinOf hs) (j .links) =
+        subst (λ (ps : List Padded). Reading rfc8288 (join ps) (j .links)) (same-pads hs) (j .reads)
+    in
+    let n : linkSum hs ≡ length (j .links) = sym (j .link-count ∙ same-link-sum hs) in
+    let m : paramSum hs ≡ countParams (j .links) = sym (j .param-count ∙ same-param-sum hs) in
+    rw (
+      n, m, sym (j .link-records ∙ same-links 0 0 hs), sym (j .param-records ∙ same-params 0 hs)
+    )
+    (reads short reading (omega arith) (omega arith))
+
+pub join-refuses : JoinRefuses
+join-refuses a b bad short L P out r =
+    let f = read-done (a .alone .answered) (a .accepted) in
+    go r (joins-malformed rfc8288 apart8288 (a .alone .pad) (b .pad) (f .links) (f .reading) (read-malformed (b .answered) bad))
+  where
+    s : List ℕ
+    s = join (a .alone .pad ∷ b .pad ∷ [])
+    go : {out : ReadOut} → Read s L P out → Malformed rfc8288 s → out .number ≡ malformedHeader
+    go (too-long l) m = absurd (omega arith)
+    go (not-derived h d p) m = refl
+    go (no-link-room h d l) m = absurd (m (d .links) (d .derived))
+    go (no-param-room h d l k) m = absurd (m (d .links) (d .derived))
+    go (reads h d l k) m = absurd (m (d .links) (d .derived))
+
+-- ---- reading back
+
+-- a table that is refused is refused with no 0
+refusal : {t : Table} {n : ℕ} → Refused t n → n ≡ done → ⊥
+refusal (long-text l) e = omega arith
+refusal (not-good s g) e = omega arith
+
+-- writing answered 0: the table is good, its form is short enough, and the octets are that form
+record Written (t : Table) (out : CopyOut) : Type 0 where
+  good : Good t
+  short : length (writtenForm t) ≤ limit
+  is : take (out .count) (out .buffer) ≡ writtenForm t
+
+write-done : {t : Table} {b : List ℕ} {out : CopyOut} → Write t b out → out .number ≡ done → Written t out
+write-done (refused r) e = absurd (refusal r e)
+write-done (no-relation u l r) e = absurd (omega arith)
+write-done (long-form u r l) e = absurd (omega arith)
+write-done (no-room u r s l) e = absurd (omega arith)
+write-done {t} (wrote u r s l) e = record { good = u .good; short = s; is = take-append-seam (writtenForm t) _ }
+
+pub back-answers : BackAnswers
+back-answers t w L P links params =
+    let d = write-done (w .answered) (w .accepted) in
+    let b = read-back t (d .good) in
+    let K = b .links in
+    let f = writtenForm t in
+    subst
+    (λ (s : List ℕ).
+      (r : ReadOut) × Read s L P r × (r .number ≡ done) × (r .links ≡ t .linkCount) × (r .params ≡ t .paramCount)
+      × (tableMeanings (readTable s r) ≡ tableMeanings t))
+    (sym (d .is))
+    (
+      filled L P K,
+      reads (d .short) (b .reads) (omega (arith, b .link-count)) (omega (arith, b .param-count)),
+      refl, b .link-count, b .param-count,
+      ap (meanings f) (read-good f K (drop (4 * length K) L) (drop (5 * countParams K) P) (b .reads) .same-links)
+      ∙ b .same-meanings
+    )
+
+pub written-apart : WrittenApart
+written-apart t u w x e =
+    let a = write-done (w .answered) (w .accepted) in
+    let b = write-done (x .answered) (x .accepted) in
+    written-tells t u (a .good) (b .good) (sym (a .is) ∙ e ∙ b .is)

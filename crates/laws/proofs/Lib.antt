@@ -1,0 +1,4 @@
+-- The proofs of the laws over all the definitions.
+pub mod Checked
+pub mod Rows
+pub mod Answers

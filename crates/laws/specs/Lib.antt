@@ -1,0 +1,6 @@
+-- Statements over all the definitions: the headers that were read by hand, and what entries answer to one another's results.
+pub mod Row
+pub mod Marked
+pub mod Slips
+pub mod Answers
+pub mod Laws

@@ -1,0 +1,54 @@
+-- What is said of one header that was read by hand, and when that holds.
+use Prim.Native.Nat.{ℕ, _/_, _≤_}
+use mathlib.Core.List.{List, [], _∷_, _++_}
+use lib.ListN.{length, drop}
+use Rattle.grammar.specs.Records.{linkRoom, paramRoom}
+use Rattle.tables.specs.Table.{Table}
+use Rattle.tables.specs.Good.{Each}
+use Rattle.outcomes.specs.Number.{done, malformedHeader}
+use Rattle.outcomes.specs.Read.{Read, refused}
+use Rattle.outcomes.specs.Search.{Search}
+use Rattle.outcomes.specs.Copy.{untouched, holding}
+use Rattle.outcomes.specs.Write.{Write}
+
+-- what the writer does with the table that is read: it writes these octets, or answers this number
+pub data Writing : Type 0 where
+  writes : List ℕ → Writing
+  answers : ℕ → Writing
+
+-- The header is read, to these link records and parameter records; its first link has these relations; and writing does this.
+-- Or it is malformed, at this place.
+pub data Judgement : Type 0 where
+  reads : List ℕ → List ℕ → List (List ℕ) → Writing → Judgement
+  malformed : ℕ → Judgement
+
+pub record Row : Type 0 where
+  pub header : List ℕ
+  pub judgement : Judgement
+
+-- the table that holds these records and no more
+abbrev pub tableOf : List ℕ → List ℕ → List ℕ → Table
+tableOf h ls ps =
+    record { text = h; linkSlots = ls; paramSlots = ps; linkCount = length ls / 4; paramCount = length ps / 5 }
+
+abbrev pub Writes : Table → Writing → Type 0
+Writes t (writes f) = (out : List ℕ) → length f ≤ length out → Write t out (holding out f)
+Writes t (answers n) = (out : List ℕ) → Write t out (untouched out n)
+
+-- in any tables with room reading fills in the records, and leaves the slots behind them as they were
+pub record ReadHolds (h ls ps : List ℕ) (qs : List (List ℕ)) (w : Writing) : Type 0 where
+  pub fills : (L P : List ℕ) → length ls / 4 ≤ linkRoom L → length ps / 5 ≤ paramRoom P
+      → Read h L P
+      (record {
+        number = done; place = 0; links = length ls / 4; params = length ps / 5;
+        linkSlots = ls ++ drop (length ls) L; paramSlots = ps ++ drop (length ps) P
+      })
+  pub has : Each (λ (q : List ℕ). Search (tableOf h ls ps) q (record { number = done; link = 0 })) qs
+  pub writing : Writes (tableOf h ls ps) w
+
+abbrev pub Judged : List ℕ → Judgement → Type 0
+Judged h (reads ls ps qs w) = ReadHolds h ls ps qs w
+Judged h (malformed k) = (L P : List ℕ) → Read h L P (refused L P malformedHeader k)
+
+abbrev pub Holds : Row → Type 0
+Holds r = Judged (r .header) (r .judgement)
