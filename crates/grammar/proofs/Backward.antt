@@ -9,20 +9,88 @@ use borrow.Author.Tests.{eqb-true}
 use Rattle.octets.specs.Sets.{isBlank, isToken, isPlain, isTarget, isHex, isEscapable}
 use Rattle.grammar.specs.Link.{Link, Param}
 use Rattle.grammar.specs.Grammar.{
-  Extra, At, In, Run, run-end, run-more, Blanks, inside-end, plain, pair, target-end, octet, triple, isBare
+  Extra,
+  At,
+  In,
+  Run,
+  run-end,
+  run-more,
+  Blanks,
+  inside-end,
+  plain,
+  pair,
+  target-end,
+  octet,
+  triple,
+  isBare,
 }
 use Rattle.grammar.specs.Grammar.{
-  Value, token, quoted, wider, Parameter, valueless, valued, Parameters, no-more, and-one, OneLink, link, empty, one, last, comma
+  Value,
+  token,
+  quoted,
+  wider,
+  Parameter,
+  valueless,
+  valued,
+  Parameters,
+  no-more,
+  and-one,
+  OneLink,
+  link,
+  empty,
+  one,
+  last,
+  comma,
 }
 use Rattle.grammar.proofs.Machine.{
-  State, gap, target, percent, hex, after, semi, name, named, equals, bare, wide, quote, escape, dead, Open, next, nameEnd
+  State,
+  gap,
+  target,
+  percent,
+  hex,
+  after,
+  semi,
+  name,
+  named,
+  equals,
+  bare,
+  wide,
+  quote,
+  escape,
+  dead,
+  Open,
+  next,
+  nameEnd,
 }
 use Rattle.grammar.proofs.Machine.{step, param, add, flag, close, opened}
 use Rattle.grammar.proofs.Rest.{
-  Gap, Ends, at-end, at-comma, After, NameRest, no-value, a-value, BareRest, all-token, turns-wide, Rest
+  Gap,
+  Ends,
+  at-end,
+  at-comma,
+  After,
+  NameRest,
+  no-value,
+  a-value,
+  BareRest,
+  all-token,
+  turns-wide,
+  Rest,
 }
 use Rattle.grammar.proofs.Rest.{
-  r-gap, r-target, r-percent, r-hex, r-after, r-semi, r-name, r-named, r-equals, r-bare, r-wide, r-quote, r-escape
+  r-gap,
+  r-target,
+  r-percent,
+  r-hex,
+  r-after,
+  r-semi,
+  r-name,
+  r-named,
+  r-equals,
+  r-bare,
+  r-wide,
+  r-quote,
+  r-escape,
 }
 
 module _ (extra : Extra) (s : List ℕ) where
@@ -52,6 +120,7 @@ module _ (extra : Extra) (s : List ℕ) where
     where
       c : ℕ
       c = getD s i 0
+
       go : {R : List Link} (x : Bool) → isBlank c ≡ x → (y : Bool) → eqb c 59 ≡ y → (z : Bool) → eqb c 44 ≡ z
           → Rest extra s (cond x (after o) (cond y (semi o) (cond z (gap (close o)) dead))) (suc i) R → Rest extra s (after o) i R
       go true e y _ z _ (r-after a) = r-after (blank-after (found h e) a)
@@ -66,8 +135,10 @@ module _ (extra : Extra) (s : List ℕ) where
     where
       c : ℕ
       c = getD s i 0
+
       flagged : {R : List Link} → Rest extra s (after (add (flag n e) o)) i R → Rest extra s (named o n e) i R
       flagged (r-after a) = r-named (no-value run-end) a
+
       go : {R : List Link} (x : Bool) → isBlank c ≡ x → (y : Bool) → eqb c 61 ≡ y
           → Rest extra s (cond x (named o n e) (cond y (equals o n e) (next (add (flag n e) o) c))) (suc i) R
           → Rest extra s (named o n e) i R
@@ -81,28 +152,45 @@ module _ (extra : Extra) (s : List ℕ) where
     where
       c : ℕ
       c = getD s i 0
+
       ended : {l : Link} {j : ℕ} {R : List Link} → OneLink extra s i j l → Ends extra s j R → Gap extra s i (l ∷ R)
       ended l (at-end bl e) =
           record { start = _; stop = _; end = _; before = run-end; items = last (one l); after = bl; complete = e }
       ended l (at-comma bl q g) =
           record {
-            start = _; stop = _; end = _; before = run-end; items = comma (one l) bl q (g .before) (g .items);
-            after = g .after; complete = g .complete
+            start = _;
+            stop = _;
+            end = _;
+            before = run-end;
+            items = comma (one l) bl q (g .before) (g .items);
+            after = g .after;
+            complete = g .complete;
           }
+
       go : {R : List Link} (x : Bool) → isBlank c ≡ x → (y : Bool) → eqb c 44 ≡ y → (z : Bool) → eqb c 60 ≡ z
           → Rest extra s (cond x (gap ls) (cond y (gap ls) (cond z (target ls (suc i)) dead))) (suc i) R
           → Rest extra s (gap ls) i R
       go true e y _ z _ (r-gap g) =
           r-gap
           (record {
-            start = _; stop = _; end = _; before = run-more (found h e) (g .before); items = g .items;
-            after = g .after; complete = g .complete
+            start = _;
+            stop = _;
+            end = _;
+            before = run-more (found h e) (g .before);
+            items = g .items;
+            after = g .after;
+            complete = g .complete;
           })
       go false _ true e z _ (r-gap g) =
           r-gap
           (record {
-            start = _; stop = _; end = _; before = run-end;
-            items = comma empty run-end (stands 44 h e) (g .before) (g .items); after = g .after; complete = g .complete
+            start = _;
+            stop = _;
+            end = _;
+            before = run-end;
+            items = comma empty run-end (stands 44 h e) (g .before) (g .items);
+            after = g .after;
+            complete = g .complete;
           })
       go false _ false _ true e (r-target t k a) = r-gap (ended (link (stands 60 h e) t k (a .params)) (a .ends))
 
@@ -112,6 +200,7 @@ module _ (extra : Extra) (s : List ℕ) where
     where
       c : ℕ
       c = getD s i 0
+
       go : {R : List Link} (x : Bool) → isTarget c ≡ x → (y : Bool) → eqb c 37 ≡ y → (z : Bool) → eqb c 62 ≡ z
           → Rest extra s (cond x (target ls a) (cond y (percent ls a) (cond z (after (opened ls a i)) dead))) (suc i) R
           → Rest extra s (target ls a) i R
@@ -125,10 +214,12 @@ module _ (extra : Extra) (s : List ℕ) where
     where
       c : ℕ
       c = getD s i 0
+
       begun : {e j : ℕ} {p : Param} → In s isToken i → Run s isToken (suc i) e → NameRest extra s i e e j p
           → Parameter extra s i j p
       begun t r (no-value bl) = valueless (record { first = t; rest = r }) bl
       begun t r (a-value bl q cl v) = valued (record { first = t; rest = r }) bl q cl v
+
       go : {R : List Link} (x : Bool) → isBlank c ≡ x → (y : Bool) → isToken c ≡ y
           → Rest extra s (cond x (semi o) (cond y (name o i) dead)) (suc i) R → Rest extra s (semi o) i R
       go true e y _ (r-semi bl p a) = r-semi (run-more (found h e) bl) p a
@@ -140,9 +231,11 @@ module _ (extra : Extra) (s : List ℕ) where
     where
       c : ℕ
       c = getD s i 0
+
       begun : {j f : ℕ} → In s isToken i → BareRest extra s (suc i) j f → Value extra s i j i j f
       begun t (all-token r) = token (record { first = t; rest = r })
       begun t (turns-wide r x w) = wider (run-more t r) x w
+
       go : {R : List Link} (x : Bool) → isBlank c ≡ x → (y : Bool) → eqb c 34 ≡ y → (z : Bool) → isToken c ≡ z
           → (w : Bool) → extra c ≡ w
           → Rest extra s
@@ -160,11 +253,14 @@ module _ (extra : Extra) (s : List ℕ) where
     where
       c : ℕ
       c = getD s i 0
+
       longer : {j f : ℕ} → In s isToken i → BareRest extra s (suc i) j f → BareRest extra s i j f
       longer t (all-token r) = all-token (run-more t r)
       longer t (turns-wide r x w) = turns-wide (run-more t r) x w
+
       ended : {R : List Link} → Rest extra s (after (add (param n e v i 1) o)) i R → Rest extra s (bare o n e v) i R
       ended (r-after a) = r-bare (all-token run-end) a
+
       go : {R : List Link} (x : Bool) → isToken c ≡ x → (y : Bool) → extra c ≡ y
           → Rest extra s (cond x (bare o n e v) (cond y (wide o n e v) (next (add (param n e v i 1) o) c))) (suc i) R
           → Rest extra s (bare o n e v) i R
@@ -178,8 +274,10 @@ module _ (extra : Extra) (s : List ℕ) where
     where
       c : ℕ
       c = getD s i 0
+
       ended : {R : List Link} → Rest extra s (after (add (param n e v i 3) o)) i R → Rest extra s (wide o n e v) i R
       ended (r-after a) = r-wide run-end a
+
       go : {R : List Link} (x : Bool) → isBare extra c ≡ x
           → Rest extra s (cond x (wide o n e v) (next (add (param n e v i 3) o) c)) (suc i) R
           → Rest extra s (wide o n e v) i R
@@ -192,6 +290,7 @@ module _ (extra : Extra) (s : List ℕ) where
     where
       c : ℕ
       c = getD s i 0
+
       go : {R : List Link} (x : Bool) → eqb c 34 ≡ x → (y : Bool) → eqb c 92 ≡ y → (z : Bool) → isPlain c ≡ z
           → Rest extra s
           (cond x (after (add (param n e v i 2) o)) (cond y (escape o n e v) (cond z (quote o n e v) dead))) (suc i) R

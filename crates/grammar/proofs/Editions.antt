@@ -7,6 +7,10 @@ pub apart8288 : Apart rfc8288
 apart8288 =
     record {
       token = λ c e. absurd (false≢true e);
-      space = refl; tab = refl; quote = refl; comma = refl; semicolon = refl;
-      octets = λ c e. absurd (false≢true e)
+      space = refl;
+      tab = refl;
+      quote = refl;
+      comma = refl;
+      semicolon = refl;
+      octets = λ c e. absurd (false≢true e);
     }

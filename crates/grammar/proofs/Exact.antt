@@ -9,20 +9,88 @@ use lib.Seq.{drop-cons}
 use Rattle.octets.specs.Sets.{isToken}
 use Rattle.grammar.specs.Link.{Link, Param}
 use Rattle.grammar.specs.Grammar.{
-  Extra, Apart, At, In, Run, run-end, run-more, Blanks, inside-end, plain, pair, target-end, octet, triple
+  Extra,
+  Apart,
+  At,
+  In,
+  Run,
+  run-end,
+  run-more,
+  Blanks,
+  inside-end,
+  plain,
+  pair,
+  target-end,
+  octet,
+  triple,
 }
 use Rattle.grammar.specs.Grammar.{
-  Value, token, quoted, wider, Parameter, valueless, valued, Parameters, no-more, and-one, link, empty, one, Items, last, comma, Field
+  Value,
+  token,
+  quoted,
+  wider,
+  Parameter,
+  valueless,
+  valued,
+  Parameters,
+  no-more,
+  and-one,
+  link,
+  empty,
+  one,
+  Items,
+  last,
+  comma,
+  Field,
 }
 use Rattle.grammar.proofs.Machine.{
-  State, gap, target, percent, hex, after, semi, name, named, equals, bare, wide, quote, escape, dead, Open
+  State,
+  gap,
+  target,
+  percent,
+  hex,
+  after,
+  semi,
+  name,
+  named,
+  equals,
+  bare,
+  wide,
+  quote,
+  escape,
+  dead,
+  Open,
 }
 use Rattle.grammar.proofs.Machine.{step, run, settle, inOrder, finish, param, add, flag, close}
 use Rattle.grammar.proofs.Rest.{
-  whole, Gap, Ends, at-end, at-comma, After, NameRest, no-value, a-value, BareRest, all-token, turns-wide, Rest
+  whole,
+  Gap,
+  Ends,
+  at-end,
+  at-comma,
+  After,
+  NameRest,
+  no-value,
+  a-value,
+  BareRest,
+  all-token,
+  turns-wide,
+  Rest,
 }
 use Rattle.grammar.proofs.Rest.{
-  r-gap, r-target, r-percent, r-hex, r-after, r-semi, r-name, r-named, r-equals, r-bare, r-wide, r-quote, r-escape
+  r-gap,
+  r-target,
+  r-percent,
+  r-hex,
+  r-after,
+  r-semi,
+  r-name,
+  r-named,
+  r-equals,
+  r-bare,
+  r-wide,
+  r-quote,
+  r-escape,
 }
 use Rattle.grammar.proofs.Forward.{forward}
 use Rattle.grammar.proofs.Backward.{backward}
@@ -175,8 +243,13 @@ module _ (extra : Extra) (apart : Apart extra) (s : List ℕ) where
       runs-out s (omega arith) refl
       (r-gap
       (record {
-        start = f .start; stop = f .stop; end = f .end; before = f .before; items = f .items; after = f .after;
-        complete = f .whole
+        start = f .start;
+        stop = f .stop;
+        end = f .end;
+        before = f .before;
+        items = f .items;
+        after = f .after;
+        complete = f .whole;
       }))
 
   pub read-derived : {R : List Link} → finish (run extra (gap []) 0 s) (length s) ≡ some R → Field extra s R
@@ -185,6 +258,11 @@ module _ (extra : Extra) (apart : Apart extra) (s : List ℕ) where
       go : {R : List Link} → Rest extra s (gap []) 0 R → Field extra s R
       go (r-gap g) =
           record {
-            start = g .start; stop = g .stop; end = g .end; before = g .before; items = g .items; after = g .after;
-            whole = g .complete
+            start = g .start;
+            stop = g .stop;
+            end = g .end;
+            before = g .before;
+            items = g .items;
+            after = g .after;
+            whole = g .complete;
           }

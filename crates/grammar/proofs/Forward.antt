@@ -8,21 +8,81 @@ use lib.ListN.{length, getD}
 use Rattle.octets.specs.Sets.{isBlank, isToken, isPlain, isTarget}
 use Rattle.grammar.specs.Link.{Link, Param}
 use Rattle.grammar.specs.Grammar.{
-  Extra, Apart, At, In, Run, run-end, run-more, Blanks, Inside, inside-end, plain, pair, Target, target-end, octet, triple
+  Extra,
+  Apart,
+  At,
+  In,
+  Run,
+  run-end,
+  run-more,
+  Blanks,
+  Inside,
+  inside-end,
+  plain,
+  pair,
+  Target,
+  target-end,
+  octet,
+  triple,
 }
 use Rattle.grammar.specs.Grammar.{
-  Value, token, quoted, wider, Parameter, valueless, valued, Parameters, no-more, and-one, link, empty, one, Items, last, comma
+  Value,
+  token,
+  quoted,
+  wider,
+  Parameter,
+  valueless,
+  valued,
+  Parameters,
+  no-more,
+  and-one,
+  link,
+  empty,
+  one,
+  Items,
+  last,
+  comma,
 }
 use Rattle.grammar.proofs.Classes.{
-  token-not-blank, blank-not-token, token-not-quote, plain-not-quote, plain-not-backslash, extra-not-blank, blank-not-extra
+  token-not-blank,
+  blank-not-token,
+  token-not-quote,
+  plain-not-quote,
+  plain-not-backslash,
+  extra-not-blank,
+  blank-not-extra,
 }
 use Rattle.octets.proofs.Laws.{not-eqb}
 use Rattle.grammar.proofs.Machine.{State, Open, next, nameEnd, step, param, add, flag}
 use Rattle.grammar.proofs.Rest.{
-  whole, Gap, Ends, at-end, at-comma, After, NameRest, no-value, a-value, BareRest, all-token, turns-wide, Rest
+  whole,
+  Gap,
+  Ends,
+  at-end,
+  at-comma,
+  After,
+  NameRest,
+  no-value,
+  a-value,
+  BareRest,
+  all-token,
+  turns-wide,
+  Rest,
 }
 use Rattle.grammar.proofs.Rest.{
-  r-gap, r-target, r-percent, r-hex, r-after, r-semi, r-name, r-named, r-equals, r-bare, r-wide, r-quote, r-escape
+  r-gap,
+  r-target,
+  r-percent,
+  r-hex,
+  r-after,
+  r-semi,
+  r-name,
+  r-named,
+  r-equals,
+  r-bare,
+  r-wide,
+  r-quote,
+  r-escape,
 }
 
 module _ (extra : Extra) (apart : Apart extra) (s : List ℕ) where
@@ -106,8 +166,9 @@ module _ (extra : Extra) (apart : Apart extra) (s : List ℕ) where
           rw (q .is)
           (r-target t k
           (record {
-            stop = _; params = ps;
-            ends = at-comma r c (record { start = _; stop = _; end = _; before = bl; items = it; after = af; complete = w })
+            stop = _;
+            params = ps;
+            ends = at-comma r c (record { start = _; stop = _; end = _; before = bl; items = it; after = af; complete = w });
           }))
 
   pub forward : {st : State} {i : ℕ} {R : List Link} → i < length s → Rest extra s st i R

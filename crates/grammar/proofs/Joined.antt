@@ -16,7 +16,24 @@ use Rattle.grammar.specs.Grammar.{Extra, Apart, Field}
 use Rattle.grammar.specs.Join.{Padded, padded, join, Readable}
 use Rattle.grammar.specs.Laws.{JoinsMalformed}
 use Rattle.grammar.proofs.Machine.{
-  State, gap, target, percent, hex, after, semi, name, named, equals, bare, wide, quote, escape, dead, step, run, settle
+  State,
+  gap,
+  target,
+  percent,
+  hex,
+  after,
+  semi,
+  name,
+  named,
+  equals,
+  bare,
+  wide,
+  quote,
+  escape,
+  dead,
+  step,
+  run,
+  settle,
 }
 use Rattle.grammar.proofs.Machine.{inOrder, finish}
 use Rattle.grammar.proofs.Exact.{derived-read, read-derived}
@@ -119,16 +136,16 @@ module _ (extra : Extra) (apart : Apart extra) where
   padded-settle p pre k =
       let m = k + length (p .left) in
       let front : k + length (p .left ++ p .header) ≡ m + length (p .header) =
-          omega (arith, length-append (p .left) (p .header))
+      omega (arith, length-append (p .left) (p .header))
       in
       let end : k + length (padded p) ≡ k + length (p .left ++ p .header) + length (p .right) =
-          omega (arith, length-append (p .left ++ p .header) (p .right))
+      omega (arith, length-append (p .left ++ p .header) (p .right))
       in
       let raised : run extra (gap pre) k (p .left ++ p .header) ≡ lift m pre (run extra (gap []) 0 (p .header)) =
-          run-append extra (p .left) (p .header) (gap pre) k
-          ∙ ap (λ (x : State). run extra x m (p .header)) (gap-blanks (p .left) pre k (p .left-blank))
-          ∙ ap (λ (n : ℕ). run extra (gap pre) n (p .header)) (sym (add-zero m))
-          ∙ run-lift m pre extra (p .header) (gap []) 0
+      run-append extra (p .left) (p .header) (gap pre) k
+      ∙ ap (λ (x : State). run extra x m (p .header)) (gap-blanks (p .left) pre k (p .left-blank))
+      ∙ ap (λ (n : ℕ). run extra (gap pre) n (p .header)) (sym (add-zero m))
+      ∙ run-lift m pre extra (p .header) (gap []) 0
       in
       rw (end, run-append extra (p .left ++ p .header) (p .right) (gap pre) k)
       (blanks-run (p .right) _ _ (p .right-blank)
@@ -149,12 +166,11 @@ module _ (extra : Extra) (apart : Apart extra) where
       × (reverse ls ≡ reverse pre ++ map (raiseLink (k + length (p .left))) R)
   padded-run p f pre k =
       let (ls, q, r) = settled (p .header) f in
-      let m = k + length (p .left) in
-      (
+      let m = k + length (p .left) in (
         behind m pre ls,
         padded-settle p pre k ∙ ap (behindIn m pre) q,
         reverse-append (map (raiseLink m) ls) pre
-        ∙ ap (λ (x : List Link). reverse pre ++ x) (map-reverseAux (raiseLink m) ls [] ∙ ap (map (raiseLink m)) r)
+            ∙ ap (λ (x : List Link). reverse pre ++ x) (map-reverseAux (raiseLink m) ls [] ∙ ap (map (raiseLink m)) r),
       )
 
   -- the links of the join, before keeping
@@ -179,13 +195,12 @@ module _ (extra : Extra) (apart : Apart extra) where
       let (ms, u, v) = joined-run (b ∷ hs) ls (n + 1) in
       let J = join (pads (b ∷ hs)) in
       let end : n + 1 + length J ≡ k + length (padded (a .pad) ++ 44 ∷ J) =
-          omega (arith, length-append (padded (a .pad)) (44 ∷ J))
-      in
-      (
+      omega (arith, length-append (padded (a .pad)) (44 ∷ J))
+      in (
         ms,
         subst (λ (m : ℕ). settle (run extra (gap pre) k (padded (a .pad) ++ 44 ∷ J)) m ≡ some ms) end
-        (ap (λ (x : State). settle x (n + 1 + length J)) (comma-run (padded (a .pad)) J (gap pre) k ls q) ∙ u),
-        v ∙ ap (λ (x : List Link). x ++ joinedAll (n + 1) (b ∷ hs)) r ∙ append-assoc (reverse pre) _ _
+            (ap (λ (x : State). settle x (n + 1 + length J)) (comma-run (padded (a .pad)) J (gap pre) k ls q) ∙ u),
+        v ∙ ap (λ (x : List Link). x ++ joinedAll (n + 1) (b ∷ hs)) r ∙ append-assoc (reverse pre) _ _,
       )
 
   -- the join of accepted headers is derived, with the links of each, raised
@@ -204,7 +219,7 @@ joins-malformed extra apart p q K r bad R f =
     let end : length s ≡ k + length (padded q) = omega (arith, length-append (padded p) (44 ∷ padded q)) in
     let alone = settle (run extra (gap []) 0 (q .header)) (length (q .header)) in
     let read : settle (run extra (gap []) 0 s) (length s) ≡ behindIn (k + length (q .left)) ls alone =
-        rw (end, comma-run extra apart (padded p) (padded q) (gap []) 0 ls e) (padded-settle extra apart q ls k)
+    rw (end, comma-run extra apart (padded p) (padded q) (gap []) 0 ls e) (padded-settle extra apart q ls k)
     in
     go (k + length (q .left)) ls alone refl (subst (λ (x : Option (List Link)). inOrder x ≡ some R) read (derived-read extra apart s f))
   where

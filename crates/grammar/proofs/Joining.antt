@@ -12,7 +12,17 @@ use Rattle.grammar.specs.Grammar.{Extra, Apart}
 use Rattle.grammar.specs.Kept.{nameOf, among, isOnce, unless, keepAfter, keptLink, Reading}
 use Rattle.grammar.specs.Records.{linkRecords, recordsOf, paramRecords, countParams}
 use Rattle.grammar.specs.Join.{
-  Padded, padded, join, raiseLinks, raiseParams, Readable, joinedLinks, joinedParams, linkSum, paramSum, JoinReads
+  Padded,
+  padded,
+  join,
+  raiseLinks,
+  raiseParams,
+  Readable,
+  joinedLinks,
+  joinedParams,
+  linkSum,
+  paramSum,
+  JoinReads,
 }
 use Rattle.grammar.specs.Laws.{Joins}
 use Rattle.grammar.proofs.Raise.{raiseParam, raiseLink}
@@ -48,7 +58,7 @@ module _ (u s v : List ℕ) where
   kept-raised (link-in {l = l} {ls = ls} h r) =
       ap₂
       (λ (ps : List Param) (ms : List Link).
-        record { targetFrom = length u + l .targetFrom; targetTo = length u + l .targetTo; params = ps } ∷ ms)
+      record { targetFrom = length u + l .targetFrom; targetTo = length u + l .targetTo; params = ps } ∷ ms)
       (keep-raised [] h) (kept-raised r)
 
 module _ (extra : Extra) (apart : Apart extra) where
@@ -77,7 +87,7 @@ module _ (extra : Extra) (apart : Apart extra) where
       let J = join (pads extra apart (b ∷ hs)) in
       let u′ = u ++ padded (a .pad) ++ (44 ∷ []) in
       let n : length u′ ≡ k + length (padded (a .pad)) + 1 =
-          omega (arith, length-append (u ++ padded (a .pad)) (44 ∷ []), length-append u (padded (a .pad)))
+      omega (arith, length-append (u ++ padded (a .pad)) (44 ∷ []), length-append u (padded (a .pad)))
       in
       map-append (keptLink w) (map (raiseLink (k + length (a .pad .left))) (a .reads .links)) _
       ∙ ap₂ (λ (x y : List Link). x ++ y) (kept-one w u (a .pad .right ++ 44 ∷ J) a k (e ∙ simp append-assoc) h)
@@ -99,7 +109,7 @@ params-raised k [] rs = refl
 params-raised k (p ∷ ps) rs =
     ap
     (λ (x : List ℕ).
-      (k + p .nameFrom) ∷ (k + p .nameTo) ∷ (k + p .valueFrom) ∷ (k + p .valueTo) ∷ p .form ∷ x)
+    (k + p .nameFrom) ∷ (k + p .nameTo) ∷ (k + p .valueFrom) ∷ (k + p .valueTo) ∷ p .form ∷ x)
     (params-raised k ps rs)
 
 param-records-raised : (k : ℕ) (ls : List Link) → paramRecords (map (raiseLink k) ls) ≡ raiseParams k (paramRecords ls)
@@ -160,7 +170,7 @@ module _ (extra : Extra) (apart : Apart extra) where
       rw (
         length-append (map (raiseLink (k + length (a .pad .left))) (a .reading)) (joinedKept extra apart (k + length (padded (a .pad)) + 1) hs),
         length-map (a .reading) (raiseLink (k + length (a .pad .left))),
-        joined-link-count (k + length (padded (a .pad)) + 1) hs
+        joined-link-count (k + length (padded (a .pad)) + 1) hs,
       )
 
   joined-param-count : (k : ℕ) (hs : List (Readable extra)) → countParams (joinedKept extra apart k hs) ≡ paramSum extra hs
@@ -170,7 +180,7 @@ module _ (extra : Extra) (apart : Apart extra) where
       rw (
         param-count-append (map (raiseLink (k + length (a .pad .left))) (a .reading)) (joinedKept extra apart (k + length (padded (a .pad)) + 1) hs),
         param-count-raised (k + length (a .pad .left)) (a .reading),
-        joined-param-count (k + length (padded (a .pad)) + 1) hs
+        joined-param-count (k + length (padded (a .pad)) + 1) hs,
       )
 
 pub joins : Joins
@@ -179,11 +189,12 @@ joins extra apart hs =
       links = joinedKept extra apart 0 hs;
       reads =
           record {
-            links = joinedAll extra apart 0 hs; derived = joined-derived extra apart hs;
-            kept = sym (kept-all extra apart hs (join (pads extra apart hs)) [] 0 refl refl)
+            links = joinedAll extra apart 0 hs;
+            derived = joined-derived extra apart hs;
+            kept = sym (kept-all extra apart hs (join (pads extra apart hs)) [] 0 refl refl);
           };
       link-records = joined-links extra apart 0 0 hs;
       param-records = joined-params extra apart 0 hs;
       link-count = joined-link-count extra apart 0 hs;
-      param-count = joined-param-count extra apart 0 hs
+      param-count = joined-param-count extra apart 0 hs;
     }

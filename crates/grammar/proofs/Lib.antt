@@ -9,6 +9,7 @@ pub mod Editions
 pub mod Readings
 pub mod Prefix
 pub mod OctetsOnly
+pub mod Keeping
 pub mod Raise
 pub mod Joined
 pub mod Spans

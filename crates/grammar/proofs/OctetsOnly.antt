@@ -16,7 +16,25 @@ use Rattle.grammar.specs.Grammar.{Extra, Apart, Field}
 use Rattle.grammar.specs.Laws.{OctetsOnly}
 use Rattle.grammar.proofs.Classes.{turned}
 use Rattle.grammar.proofs.Machine.{
-  State, gap, target, percent, hex, after, semi, name, named, equals, bare, wide, quote, escape, dead, Open, next, step, run
+  State,
+  gap,
+  target,
+  percent,
+  hex,
+  after,
+  semi,
+  name,
+  named,
+  equals,
+  bare,
+  wide,
+  quote,
+  escape,
+  dead,
+  Open,
+  next,
+  step,
+  run,
 }
 use Rattle.grammar.proofs.Machine.{finish, nameEnd, add, param}
 use Rattle.grammar.proofs.Exact.{derived-read}
@@ -39,7 +57,10 @@ module _ (extra : Extra) (apart : Apart extra) (c : ℕ) (h : isOctet c ≡ fals
   name-dead : (o : Open) (n e : ℕ) → nameEnd o n e c ≡ dead
   name-dead o n e =
       rw (
-        beyond blank-octet c h, other 61 c (omega arith) h, other 59 c (omega arith) h, other 44 c (omega arith) h
+        beyond blank-octet c h,
+        other 61 c (omega arith) h,
+        other 59 c (omega arith) h,
+        other 44 c (omega arith) h,
       )
 
   step-dead : (st : State) (i : ℕ) → step extra st i c ≡ dead
@@ -71,7 +92,7 @@ read-octets extra apart (c ∷ t) st i n {R} e = go (isOctet c) refl (read-octet
     go true q rest = rw (q, rest)
     go false q rest =
         let died : run extra (step extra st i c) (suc i) t ≡ dead =
-            ap (λ (x : State). run extra x (suc i) t) (step-dead extra apart c q st i) ∙ run-dead extra t (suc i)
+        ap (λ (x : State). run extra x (suc i) t) (step-dead extra apart c q st i) ∙ run-dead extra t (suc i)
         in
         let none-read : none ≡ some R = subst (λ (x : State). finish x n ≡ some R) died e in
         let z : _≡_ {A = ℕ} 0 1 = cc in

@@ -17,7 +17,24 @@ use Rattle.grammar.specs.Grammar.{Extra, Apart}
 use Rattle.grammar.specs.Place.{Begins, Place}
 use Rattle.grammar.specs.Laws.{OnePlace, CutShort}
 use Rattle.grammar.proofs.Machine.{
-  State, gap, target, percent, hex, after, semi, name, named, equals, bare, wide, quote, escape, dead, step, run, finish
+  State,
+  gap,
+  target,
+  percent,
+  hex,
+  after,
+  semi,
+  name,
+  named,
+  equals,
+  bare,
+  wide,
+  quote,
+  escape,
+  dead,
+  step,
+  run,
+  finish,
 }
 use Rattle.grammar.proofs.Exact.{derived-read, read-derived}
 
@@ -108,10 +125,11 @@ module _ (extra : Extra) (apart : Apart extra) where
       let t = completion (upTo u) in
       let (R, e) = completes extra (upTo u) (0 + length u) (length (u ++ t)) alive in
       record {
-        rest = t; links = R;
+        rest = t;
+        links = R;
         derived =
             read-derived extra apart (u ++ t)
-            (ap (λ (x : State). finish x (length (u ++ t))) (run-append extra u t (gap []) 0) ∙ e)
+            (ap (λ (x : State). finish x (length (u ++ t))) (run-append extra u t (gap []) 0) ∙ e);
       }
 
   -- a text after which the machine is dead begins nothing, and is not mended by more octets
@@ -127,10 +145,10 @@ module _ (extra : Extra) (apart : Apart extra) where
       go false e = e
       go true e =
           let read : finish (upTo (u ++ b .rest)) (length (u ++ b .rest)) ≡ some (b .links) =
-              derived-read extra apart (u ++ b .rest) (b .derived)
+          derived-read extra apart (u ++ b .rest) (b .derived)
           in
           let none-read : none ≡ some (b .links) =
-              subst (λ (x : State). finish x (length (u ++ b .rest)) ≡ some (b .links)) (dead-on u (b .rest) e) read
+          subst (λ (x : State). finish x (length (u ++ b .rest)) ≡ some (b .links)) (dead-on u (b .rest) e) read
           in
           let z : _≡_ {A = ℕ} 0 1 = cc in
           absurd (omega arith)
@@ -139,7 +157,7 @@ module _ (extra : Extra) (apart : Apart extra) where
   dead-later s i j h e =
       let apart-by : j ≡ i + (j - i) = omega arith in
       let split : take j s ≡ take i s ++ take (j - i) (drop i s) =
-          ap (λ (n : ℕ). take n s) apart-by ∙ take-add i (j - i) s
+      ap (λ (n : ℕ). take n s) apart-by ∙ take-add i (j - i) s
       in
       ap (λ (u : List ℕ). isDead (upTo u)) split ∙ ap isDead (dead-on (take i s) (take (j - i) (drop i s)) e)
 
@@ -181,5 +199,5 @@ cut-short extra s b =
     record {
       within = omega arith;
       begins = subst (λ (u : List ℕ). Begins extra u) (sym (take-length s)) b;
-      longest = λ j lt le _. omega arith
+      longest = λ j lt le _. omega arith;
     }

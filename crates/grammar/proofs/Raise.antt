@@ -11,7 +11,24 @@ use Rattle.octets.specs.Sets.{isBlank, isToken, isPlain, isEscapable, isTarget,
 use Rattle.grammar.specs.Link.{Link, Param}
 use Rattle.grammar.specs.Grammar.{Extra, isBare}
 use Rattle.grammar.proofs.Machine.{
-  State, gap, target, percent, hex, after, semi, name, named, equals, bare, wide, quote, escape, dead, Open, next, nameEnd
+  State,
+  gap,
+  target,
+  percent,
+  hex,
+  after,
+  semi,
+  name,
+  named,
+  equals,
+  bare,
+  wide,
+  quote,
+  escape,
+  dead,
+  Open,
+  next,
+  nameEnd,
 }
 use Rattle.grammar.proofs.Machine.{step, run, settle, param, add, flag, close, opened}
 
@@ -19,8 +36,11 @@ use Rattle.grammar.proofs.Machine.{step, run, settle, param, add, flag,
 abbrev pub raiseParam : ℕ → Param → Param
 raiseParam k p =
     record {
-      nameFrom = k + p .nameFrom; nameTo = k + p .nameTo; valueFrom = k + p .valueFrom; valueTo = k + p .valueTo;
-      form = p .form
+      nameFrom = k + p .nameFrom;
+      nameTo = k + p .nameTo;
+      valueFrom = k + p .valueFrom;
+      valueTo = k + p .valueTo;
+      form = p .form;
     }
 
 abbrev pub raiseLink : ℕ → Link → Link

@@ -7,10 +7,37 @@ use lib.ListN.{length}
 use Rattle.octets.specs.Sets.{isToken, isEscapable, isHex}
 use Rattle.grammar.specs.Link.{Link, Param}
 use Rattle.grammar.specs.Grammar.{
-  Extra, At, In, Run, Blanks, Inside, Target, isBare, Value, Parameter, Parameters, Items
+  Extra,
+  At,
+  In,
+  Run,
+  Blanks,
+  Inside,
+  Target,
+  isBare,
+  Value,
+  Parameter,
+  Parameters,
+  Items,
 }
 use Rattle.grammar.proofs.Machine.{
-  State, gap, target, percent, hex, after, semi, name, named, equals, bare, wide, quote, escape, Open, param, flag
+  State,
+  gap,
+  target,
+  percent,
+  hex,
+  after,
+  semi,
+  name,
+  named,
+  equals,
+  bare,
+  wide,
+  quote,
+  escape,
+  Open,
+  param,
+  flag,
 }
 
 -- all the links, if the open one gets the parameters ps and R come after it

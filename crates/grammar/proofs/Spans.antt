@@ -9,7 +9,23 @@ use lib.Seq.{slice, take-append-add, drop-append-add, take-append-le}
 use Rattle.octets.specs.Sets.{isToken}
 use Rattle.grammar.specs.Link.{Link, Param}
 use Rattle.grammar.specs.Grammar.{
-  Extra, Run, run-end, run-more, Token, Parameter, valueless, valued, Parameters, no-more, and-one, link, empty, one, Items, last, comma
+  Extra,
+  Run,
+  run-end,
+  run-more,
+  Token,
+  Parameter,
+  valueless,
+  valued,
+  Parameters,
+  no-more,
+  and-one,
+  link,
+  empty,
+  one,
+  Items,
+  last,
+  comma,
 }
 use Rattle.grammar.specs.Grammar.{OneLink, Item}
 

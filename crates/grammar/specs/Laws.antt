@@ -2,13 +2,15 @@
 use Prim.Native.Nat.{ℕ}
 use mathlib.Core.Path.{_≡_}
 use mathlib.Core.Logic.{_⊎_}
-use mathlib.Core.Bool.{true}
+use mathlib.Core.Bool.{true, false}
 use mathlib.Core.List.{List, [], _∷_}
 use lib.ListN.{length}
 use Rattle.octets.specs.Sets.{all, isOctet}
-use Rattle.grammar.specs.Link.{Link}
+use Rattle.octets.specs.Text.{octets}
+use Rattle.octets.specs.Fold.{same}
+use Rattle.grammar.specs.Link.{Link, Param}
 use Rattle.grammar.specs.Grammar.{Extra, Apart}
-use Rattle.grammar.specs.Kept.{Reading}
+use Rattle.grammar.specs.Kept.{nameOf, isOnce, keepAfter, Reading}
 use Rattle.grammar.specs.Place.{Malformed, Begins, Place}
 use Rattle.grammar.specs.Join.{Padded, join, Readable, JoinReads}
 
@@ -27,6 +29,28 @@ abbrev pub OnePlace : Type 0
 OnePlace =
     (extra : Extra) → Apart extra → (s : List ℕ)
     → (k : ℕ) × Place extra s k × ((j : ℕ) → Place extra s j → j ≡ k)
+
+-- the parameters of the folded name n
+abbrev pub ofName : List ℕ → List ℕ → List Param → List Param
+ofName s n [] = []
+ofName s n (p ∷ ps) = elim (same (nameOf s p) n) [ true ↦ p ∷ ofName s n ps | false ↦ ofName s n ps ]
+
+abbrev pub firstOnly : List Param → List Param
+firstOnly [] = []
+firstOnly (p ∷ ps) = p ∷ []
+
+-- Of each of the six names the first parameter is kept, of `hreflang` and all other names each one.
+pub record Keeps : Type 0 where
+  pub once : (s n : List ℕ) (ps : List Param) → isOnce n ≡ true
+      → ofName s n (keepAfter s [] ps) ≡ firstOnly (ofName s n ps)
+  pub each-time : (s n : List ℕ) (ps : List Param) → isOnce n ≡ false → ofName s n (keepAfter s [] ps) ≡ ofName s n ps
+  pub rel : isOnce (octets "rel") ≡ true
+  pub anchor : isOnce (octets "anchor") ≡ true
+  pub media : isOnce (octets "media") ≡ true
+  pub title : isOnce (octets "title") ≡ true
+  pub title* : isOnce (octets "title*") ≡ true
+  pub type : isOnce (octets "type") ≡ true
+  pub hreflang : isOnce (octets "hreflang") ≡ false
 
 -- a header cut short, which some derivable header begins with, has its own length as place
 abbrev pub CutShort : Type 0

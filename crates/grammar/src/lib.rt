@@ -1,44 +1,42 @@
 // The laws of the grammar, held by the gate: each function promises one statement of specs/Laws.antt and does nothing.
-ghost use Rattle.grammar.specs.Laws.{OneReading, Decided, OnePlace, CutShort, OctetsOnly, Joins, JoinsMalformed};
+ghost use Rattle.grammar.specs.Laws.{OneReading, Decided, OnePlace, Keeps, CutShort, OctetsOnly, Joins, JoinsMalformed};
 
 // No header has two readings.
 pub fn one_reading()
     ensures { λ _. ⌜ OneReading ⌝ }
-{
-}
+{}
 
 // Whether a header has a reading is decided.
 pub fn decided()
     ensures { λ _. ⌜ Decided ⌝ }
-{
-}
+{}
 
 // A header's place exists, is unique and is found.
 pub fn one_place()
     ensures { λ _. ⌜ OnePlace ⌝ }
-{
-}
+{}
+
+// Of each of the six names the first parameter is kept, of all other names each one.
+pub fn keeps()
+    ensures { λ _. ⌜ Keeps ⌝ }
+{}
 
 // A header cut short has its own length as place.
 pub fn cut_short()
     ensures { λ _. ⌜ CutShort ⌝ }
-{
-}
+{}
 
 // Every number of a derivable header is an octet.
 pub fn octets_only()
     ensures { λ _. ⌜ OctetsOnly ⌝ }
-{
-}
+{}
 
 // A join of headers that have readings reads to their records, raised.
 pub fn joins()
     ensures { λ _. ⌜ Joins ⌝ }
-{
-}
+{}
 
 // A header that has a reading, followed by a malformed one, joins to a malformed header.
 pub fn joins_malformed()
     ensures { λ _. ⌜ JoinsMalformed ⌝ }
-{
-}
+{}

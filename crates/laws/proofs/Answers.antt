@@ -27,7 +27,17 @@ use Rattle.outcomes.specs.Read.{ReadOut, filled, Read, too-long, not-derived, n
 use Rattle.outcomes.specs.Copy.{CopyOut}
 use Rattle.outcomes.specs.Write.{Write, writtenForm, refused, no-relation, long-form, no-room, wrote}
 use Rattle.laws.specs.Answers.{
-  ReadAlone, Accepted, joinOf, linksOf, paramsOf, linkSum, paramSum, joinedLinks, joinedParams, JoinAnswers, JoinRefuses
+  ReadAlone,
+  Accepted,
+  joinOf,
+  linksOf,
+  paramsOf,
+  linkSum,
+  paramSum,
+  joinedLinks,
+  joinedParams,
+  JoinAnswers,
+  JoinRefuses,
 }
 use Rattle.laws.specs.Answers.{Wrote, octetsOf, readTable, BackAnswers, WrittenApart}
 
@@ -81,7 +91,7 @@ agrees a =
           ∙ take-at (linkRecords 0 K) _ (4 * length K) (link-records-length 0 K);
       param-records =
           ap (λ (o : ReadOut). take (5 * o .params) (o .paramSlots)) (f .is)
-          ∙ take-at (paramRecords K) _ (5 * countParams K) (param-records-length K)
+          ∙ take-at (paramRecords K) _ (5 * countParams K) (param-records-length K);
     }
 
 same-pads : (hs : List Accepted)
@@ -118,12 +128,15 @@ pub join-answers : JoinAnswers
 join-answers hs L P short links params =
     let j = joins rfc8288 apart8288 (map readable hs) in
     let reading : Reading rfc8288 (joinOf hs) (j .links) =
-        subst (λ (ps : List Padded). Reading rfc8288 (join ps) (j .links)) (same-pads hs) (j .reads)
+    subst (λ (ps : List Padded). Reading rfc8288 (join ps) (j .links)) (same-pads hs) (j .reads)
     in
     let n : linkSum hs ≡ length (j .links) = sym (j .link-count ∙ same-link-sum hs) in
     let m : paramSum hs ≡ countParams (j .links) = sym (j .param-count ∙ same-param-sum hs) in
     rw (
-      n, m, sym (j .link-records ∙ same-links 0 0 hs), sym (j .param-records ∙ same-params 0 hs)
+      n,
+      m,
+      sym (j .link-records ∙ same-links 0 0 hs),
+      sym (j .param-records ∙ same-params 0 hs),
     )
     (reads short reading (omega arith) (omega arith))
 
@@ -134,6 +147,7 @@ join-refuses a b bad short L P out r =
   where
     s : List ℕ
     s = join (a .alone .pad ∷ b .pad ∷ [])
+
     go : {out : ReadOut} → Read s L P out → Malformed rfc8288 s → out .number ≡ malformedHeader
     go (too-long l) m = absurd (omega arith)
     go (not-derived h d p) m = refl
@@ -169,15 +183,16 @@ back-answers t w L P links params =
     let f = writtenForm t in
     subst
     (λ (s : List ℕ).
-      (r : ReadOut) × Read s L P r × (r .number ≡ done) × (r .links ≡ t .linkCount) × (r .params ≡ t .paramCount)
-      × (tableMeanings (readTable s r) ≡ tableMeanings t))
-    (sym (d .is))
-    (
+    (r : ReadOut) × Read s L P r × (r .number ≡ done) × (r .links ≡ t .linkCount) × (r .params ≡ t .paramCount)
+    × (tableMeanings (readTable s r) ≡ tableMeanings t))
+    (sym (d .is)) (
       filled L P K,
       reads (d .short) (b .reads) (omega (arith, b .link-count)) (omega (arith, b .param-count)),
-      refl, b .link-count, b .param-count,
+      refl,
+      b .link-count,
+      b .param-count,
       ap (meanings f) (read-good f K (drop (4 * length K) L) (drop (5 * countParams K) P) (b .reads) .same-links)
-      ∙ b .same-meanings
+          ∙ b .same-meanings,
     )
 
 pub written-apart : WrittenApart

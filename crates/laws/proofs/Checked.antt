@@ -89,8 +89,12 @@ record Known (h ls ps : List ℕ) : Type 0 where
   fills : (L P : List ℕ) → length ls / 4 ≤ linkRoom L → length ps / 5 ≤ paramRoom P
       → Read h L P
       (record {
-        number = done; place = 0; links = length ls / 4; params = length ps / 5;
-        linkSlots = ls ++ drop (length ls) L; paramSlots = ps ++ drop (length ps) P
+        number = done;
+        place = 0;
+        links = length ls / 4;
+        params = length ps / 5;
+        linkSlots = ls ++ drop (length ls) L;
+        paramSlots = ps ++ drop (length ps) P;
       })
   usable : Usable (tableOf h ls ps)
 
@@ -105,8 +109,8 @@ known h short K r =
       usable =
           record {
             short = short;
-            good = regood (append-nil (linkRecords 0 K)) (append-nil (paramRecords K)) n m (read-good h K [] [] r .good)
-          }
+            good = regood (append-nil (linkRecords 0 K)) (append-nil (paramRecords K)) n m (read-good h K [] [] r .good);
+          };
     }
 
 recorded-known : (h ls ps : List ℕ) → length h ≤ limit → recorded h ls ps (read h) ≡ true → Known h ls ps
@@ -145,37 +149,39 @@ related-all t e i l q =
 written-holds : (t : Table) (w : Writing) → Usable t → written t w ≡ true → Writes t w
 written-holds t (writes f) u e =
     let (xy, short) =
-        both (every (λ i. not (isNone (relationsAt t i))) (t .linkCount) && same (writtenForm t) f) (leb (length f) limit) e
+    both (every (λ i. not (isNone (relationsAt t i))) (t .linkCount) && same (writtenForm t) f) (leb (length f) limit) e
     in
     let (related, form) = both (every (λ i. not (isNone (relationsAt t i))) (t .linkCount)) (same (writtenForm t) f) xy in
     λ out room.
-      subst (λ (x : List ℕ). length x ≤ limit → length x ≤ length out → Write t out (holding out x))
-      (same-sound (writtenForm t) f form) (λ a b. wrote u (related-all t related) a b)
-      (leb-true (length f) limit short) room
+    subst (λ (x : List ℕ). length x ≤ limit → length x ≤ length out → Write t out (holding out x))
+    (same-sound (writtenForm t) f form) (λ a b. wrote u (related-all t related) a b)
+    (leb-true (length f) limit short) room
 written-holds t (answers n) u e =
     let (xy, bare) = both (eqb n 6 && ltb 0 (t .linkCount)) (isNone (relationsAt t 0)) e in
     let (six, links) = both (eqb n 6) (ltb 0 (t .linkCount)) xy in
     λ out.
-      subst (λ (x : ℕ). Write t out (untouched out x)) (sym (eqb-true n 6 six))
-      (no-relation u (ltb-true 0 (t .linkCount) links) (is-none (relationsAt t 0) bare))
+    subst (λ (x : ℕ). Write t out (untouched out x)) (sym (eqb-true n 6 six))
+    (no-relation u (ltb-true 0 (t .linkCount) links) (is-none (relationsAt t 0) bare))
 
 reads-hold : (h ls ps : List ℕ) (qs : List (List ℕ)) (w : Writing) → checks h (reads ls ps qs w) ≡ true
     → ReadHolds h ls ps qs w
 reads-hold h ls ps qs w e =
     let t = tableOf h ls ps in
     let (abcd, writing) =
-        both
-        (leb (length h) limit && recorded h ls ps (read h) && (isNone qs || ltb 0 (length ls / 4)) && asked t qs)
-        (written t w) e
+    both
+    (leb (length h) limit && recorded h ls ps (read h) && (isNone qs || ltb 0 (length ls / 4)) && asked t qs)
+    (written t w) e
     in
     let (abc, queries) =
-        both (leb (length h) limit && recorded h ls ps (read h) && (isNone qs || ltb 0 (length ls / 4))) (asked t qs) abcd
+    both (leb (length h) limit && recorded h ls ps (read h) && (isNone qs || ltb 0 (length ls / 4))) (asked t qs) abcd
     in
     let (ab, links) = both (leb (length h) limit && recorded h ls ps (read h)) (isNone qs || ltb 0 (length ls / 4)) abc in
     let (short, records) = both (leb (length h) limit) (recorded h ls ps (read h)) ab in
     let k = recorded-known h ls ps (leb-true (length h) limit short) records in
     record {
-      fills = k .fills; has = asked-holds t qs (k .usable) links queries; writing = written-holds t w (k .usable) writing
+      fills = k .fills;
+      has = asked-holds t qs (k .usable) links queries;
+      writing = written-holds t w (k .usable) writing;
     }
 
 not-read : (h : List ℕ) → unread (read h) ≡ true → read h ≡ none
@@ -189,18 +195,18 @@ malformed-holds : (h : List ℕ) (k : ℕ) → checks h (malformed k) ≡ true �
 malformed-holds h k e =
     let u = upTo rfc8288 apart8288 in
     let (abcd, dies) =
-        both (leb (length h) limit && unread (read h) && leb k (length h) && not (isDead (u (take k h))))
-        (eqb k (length h) || isDead (u (take (suc k) h))) e
+    both (leb (length h) limit && unread (read h) && leb k (length h) && not (isDead (u (take k h))))
+    (eqb k (length h) || isDead (u (take (suc k) h))) e
     in
     let (abc, lives) =
-        both (leb (length h) limit && unread (read h) && leb k (length h)) (not (isDead (u (take k h)))) abcd
+    both (leb (length h) limit && unread (read h) && leb k (length h)) (not (isDead (u (take k h)))) abcd
     in
     let (ab, within) = both (leb (length h) limit && unread (read h)) (leb k (length h)) abc in
     let (short, none-read) = both (leb (length h) limit) (unread (read h)) ab in
     λ L P.
-      not-derived (leb-true (length h) limit short) (unread-malformed rfc8288 apart8288 h (not-read h none-read))
-      (place-at rfc8288 apart8288 h k (leb-true k (length h) within) (not-true (isDead (u (take k h))) lives)
-      (⊎-map (eqb-true k (length h)) (λ d. d) (either (eqb k (length h)) (isDead (u (take (suc k) h))) dies)))
+    not-derived (leb-true (length h) limit short) (unread-malformed rfc8288 apart8288 h (not-read h none-read))
+    (place-at rfc8288 apart8288 h k (leb-true k (length h) within) (not-true (isDead (u (take k h))) lives)
+    (⊎-map (eqb-true k (length h)) (λ d. d) (either (eqb k (length h)) (isDead (u (take (suc k) h))) dies)))
 
 row-holds : (r : Row) → checks (r .header) (r .judgement) ≡ true → Holds r
 row-holds r e = go (r .header) (r .judgement) e

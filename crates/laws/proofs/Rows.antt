@@ -30,5 +30,5 @@ premise-needed =
       first = unread-malformed rfc8288 apart8288 (octets "<a>;t=\"b") refl;
       second = unread-malformed rfc8288 apart8288 (octets "c\"") refl;
       links = _;
-      joined = read-reading rfc8288 apart8288 (octets "<a>;t=\"b,c\"") _ refl
+      joined = read-reading rfc8288 apart8288 (octets "<a>;t=\"b,c\"") _ refl;
     }

@@ -66,8 +66,12 @@ JoinAnswers =
     (hs : List Accepted) (L P : List ℕ) → length (joinOf hs) ≤ limit → linkSum hs ≤ linkRoom L → paramSum hs ≤ paramRoom P
     → Read (joinOf hs) L P
     (record {
-      number = done; place = 0; links = linkSum hs; params = paramSum hs;
-      linkSlots = joinedLinks 0 0 hs ++ drop (4 * linkSum hs) L; paramSlots = joinedParams 0 hs ++ drop (5 * paramSum hs) P
+      number = done;
+      place = 0;
+      links = linkSum hs;
+      params = paramSum hs;
+      linkSlots = joinedLinks 0 0 hs ++ drop (4 * linkSum hs) L;
+      paramSlots = joinedParams 0 hs ++ drop (5 * paramSum hs) P;
     })
 
 -- an accepted header followed by a malformed one: their join, of at most 8,192 octets, is malformed in whatever tables
@@ -94,7 +98,11 @@ octetsOf w = take (w .out .count) (w .out .buffer)
 abbrev pub readTable : List ℕ → ReadOut → Table
 readTable s r =
     record {
-      text = s; linkSlots = r .linkSlots; paramSlots = r .paramSlots; linkCount = r .links; paramCount = r .params
+      text = s;
+      linkSlots = r .linkSlots;
+      paramSlots = r .paramSlots;
+      linkCount = r .links;
+      paramCount = r .params;
     }
 
 -- they are read, in room for the table's counts, to the same counts and an equal list of link meanings

@@ -40,8 +40,12 @@ pub record ReadHolds (h ls ps : List ℕ) (qs : List (List ℕ)) (w : Writing) :
   pub fills : (L P : List ℕ) → length ls / 4 ≤ linkRoom L → length ps / 5 ≤ paramRoom P
       → Read h L P
       (record {
-        number = done; place = 0; links = length ls / 4; params = length ps / 5;
-        linkSlots = ls ++ drop (length ls) L; paramSlots = ps ++ drop (length ps) P
+        number = done;
+        place = 0;
+        links = length ls / 4;
+        params = length ps / 5;
+        linkSlots = ls ++ drop (length ls) L;
+        paramSlots = ps ++ drop (length ps) P;
       })
   pub has : Each (λ (q : List ℕ). Search (tableOf h ls ps) q (record { number = done; link = 0 })) qs
   pub writing : Writes (tableOf h ls ps) w

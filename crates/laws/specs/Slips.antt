@@ -17,14 +17,14 @@ slips =
       header = octets "<a>;t=\";,\";rel=b";
       judgement =
           reads (1 ∷ 2 ∷ 0 ∷ 2 ∷ []) (4 ∷ 5 ∷ 7 ∷ 9 ∷ 2 ∷ 11 ∷ 14 ∷ 15 ∷ 16 ∷ 1 ∷ []) (octets "B" ∷ [])
-          (writes (octets "<a>; t=\";,\"; rel=b"))
+          (writes (octets "<a>; t=\";,\"; rel=b"));
     }
     -- of two titles the first is kept
     ∷ record {
       header = octets "<a>;rel=b;title=c;TITLE=d";
       judgement =
           reads (1 ∷ 2 ∷ 0 ∷ 2 ∷ []) (4 ∷ 7 ∷ 8 ∷ 9 ∷ 1 ∷ 10 ∷ 15 ∷ 16 ∷ 17 ∷ 1 ∷ []) (octets "b" ∷ [])
-          (writes (octets "<a>; rel=b; title=c"))
+          (writes (octets "<a>; rel=b; title=c"));
     }
     -- of two hreflangs both are kept
     ∷ record {
@@ -32,14 +32,14 @@ slips =
       judgement =
           reads (1 ∷ 2 ∷ 0 ∷ 3 ∷ [])
           (4 ∷ 12 ∷ 13 ∷ 14 ∷ 1 ∷ 15 ∷ 23 ∷ 24 ∷ 25 ∷ 1 ∷ 26 ∷ 29 ∷ 30 ∷ 31 ∷ 1 ∷ []) (octets "d" ∷ [])
-          (writes (octets "<a>; hreflang=b; hreflang=c; rel=d"))
+          (writes (octets "<a>; hreflang=b; hreflang=c; rel=d"));
     }
     -- a relation is compared folded, and with backslashes out; SP parts relations, HTAB doesn't
     ∷ record {
       header = octets "<a>;rel=\" N\\Ext b\tc \"";
       judgement =
           reads (1 ∷ 2 ∷ 0 ∷ 1 ∷ []) (4 ∷ 7 ∷ 9 ∷ 20 ∷ 2 ∷ []) (octets "next" ∷ octets "B\tC" ∷ [])
-          (writes (octets "<a>; rel=\" NExt b\tc \""))
+          (writes (octets "<a>; rel=\" NExt b\tc \""));
     }
     -- a later one of a kept name must still be well formed
     ∷ record { header = octets "<a>;rel=b;rel=;"; judgement = malformed 14 }

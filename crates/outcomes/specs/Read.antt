@@ -26,8 +26,12 @@ refused L P n k = record { number = n; place = k; links = 0; params = 0; linkSlo
 abbrev pub filled : List ℕ → List ℕ → List Link → ReadOut
 filled L P K =
     record {
-      number = done; place = 0; links = length K; params = countParams K;
-      linkSlots = linkRecords 0 K ++ drop (4 * length K) L; paramSlots = paramRecords K ++ drop (5 * countParams K) P
+      number = done;
+      place = 0;
+      links = length K;
+      params = countParams K;
+      linkSlots = linkRecords 0 K ++ drop (4 * length K) L;
+      paramSlots = paramRecords K ++ drop (5 * countParams K) P;
     }
 
 -- the header h, with tables that hold L and P

@@ -4,29 +4,24 @@ ghost use Rattle.outcomes.specs.Laws.{ReadSettled, SearchSettled, Contex
 // Reading a header has one outcome.
 pub fn read_settled()
     ensures { λ _. ⌜ ReadSettled ⌝ }
-{
-}
+{}
 
 // Searching a table has one outcome.
 pub fn search_settled()
     ensures { λ _. ⌜ SearchSettled ⌝ }
-{
-}
+{}
 
 // Asking for a link's context has one outcome.
 pub fn context_settled()
     ensures { λ _. ⌜ ContextSettled ⌝ }
-{
-}
+{}
 
 // Copying a parameter's value has one outcome.
 pub fn copy_settled()
     ensures { λ _. ⌜ CopySettled ⌝ }
-{
-}
+{}
 
 // Writing a table has one outcome.
 pub fn write_settled()
     ensures { λ _. ⌜ WriteSettled ⌝ }
-{
-}
+{}

@@ -15,16 +15,41 @@ use Rattle.grammar.specs.Link.{Link, Param}
 use Rattle.grammar.specs.Grammar
 use Rattle.grammar.specs.Grammar.{rfc8288, At, In, Run, run-end, run-more, Blanks, Token, Inside, Value, token, quoted}
 use Rattle.grammar.specs.Grammar.{
-  Parameter, valued, Parameters, no-more, and-one, OneLink, link, empty, one, Items, last, comma, Field
+  Parameter,
+  valued,
+  Parameters,
+  no-more,
+  and-one,
+  OneLink,
+  link,
+  empty,
+  one,
+  Items,
+  last,
+  comma,
+  Field,
 }
 use Rattle.grammar.specs.Kept.{nameOf}
 use Rattle.grammar.proofs.Exact.{left-none}
 use Rattle.tables.specs.Good.{Each, each-none, each-more}
 use Rattle.tables.specs.Meaning.{
-  unescapeFrom, unescape, valueOf, ParamMeaning, paramMeaning, LinkMeaning, linkMeaning, meanings
+  unescapeFrom,
+  unescape,
+  valueOf,
+  ParamMeaning,
+  paramMeaning,
+  LinkMeaning,
+  linkMeaning,
+  meanings,
 }
 use Rattle.tables.specs.Written.{
-  isTokenText, escape, writtenValue, writtenParam, writtenParams, writtenLink, written
+  isTokenText,
+  escape,
+  writtenValue,
+  writtenParam,
+  writtenParams,
+  writtenLink,
+  written,
 }
 use Rattle.tables.proofs.Texts.{TargetText, unescape-plain}
 use Rattle.tables.proofs.Spelt.{Spells, Head, head, at, run-spells, target-spells, inside-spells, some-spells, is-in}
@@ -76,18 +101,30 @@ module _ (t : List ℕ) where
       go (c ∷ cs) true q ok e =
           let s = some-spells t cs ys i q e in
           record {
-            stop = s .stop; a = i; b = s .stop; f = 1; derived = token (s .derived); inside = s .inside; left = s .left;
-            means = λ n e. s .spelt
+            stop = s .stop;
+            a = i;
+            b = s .stop;
+            f = 1;
+            derived = token (s .derived);
+            inside = s .inside;
+            left = s .left;
+            means = λ n e. s .spelt;
           }
       go v false q ok e =
           let d : Head t i 34 (escape v ++ 34 ∷ ys) =
-              head t (e ∙ ap (λ (x : List ℕ). 34 ∷ x) (append-assoc (escape v) (34 ∷ []) ys))
+          head t (e ∙ ap (λ (x : List ℕ). 34 ∷ x) (append-assoc (escape v) (34 ∷ []) ys))
           in
           let s = inside-spells t v (34 ∷ ys) (suc i) ok (d .inside) (d .left) in
           let z : Head t (s .stop) 34 ys = head t (s .left) in
           record {
-            stop = suc (s .stop); a = suc i; b = s .stop; f = 2; derived = quoted (at t d) (s .derived) (at t z);
-            inside = z .inside; left = z .left; means = λ n e. ap (unescapeFrom false) (s .spelt) ∙ unescape-escape v
+            stop = suc (s .stop);
+            a = suc i;
+            b = s .stop;
+            f = 2;
+            derived = quoted (at t d) (s .derived) (at t z);
+            inside = z .inside;
+            left = z .left;
+            means = λ n e. ap (unescapeFrom false) (s .spelt) ∙ unescape-escape v;
           }
 
   -- ---- parameters
@@ -116,16 +153,21 @@ module _ (t : List ℕ) where
             stop = value .stop;
             param =
                 record {
-                  nameFrom = suc (suc i); nameTo = name .stop; valueFrom = value .a; valueTo = value .b; form = value .f
+                  nameFrom = suc (suc i);
+                  nameTo = name .stop;
+                  valueFrom = value .a;
+                  valueTo = value .b;
+                  form = value .f;
                 };
             derived =
                 λ j ps more.
-                  and-one run-end (at t semi) (run-more (is-in t space refl) run-end)
-                  (valued (name .derived) run-end (at t equals) run-end (value .derived)) more;
-            inside = value .inside; left = value .left;
+                and-one run-end (at t semi) (run-more (is-in t space refl) run-end)
+                (valued (name .derived) run-end (at t equals) run-end (value .derived)) more;
+            inside = value .inside;
+            left = value .left;
             means =
                 ap₂ (λ (x y : List ℕ). record { name = x; value = y }) (ap folded (name .spelt) ∙ is-folded)
-                (value .means (suc (suc i)) (name .stop))
+                (value .means (suc (suc i)) (name .stop));
           }
 
   record ParamsBack (ms : List ParamMeaning) (i : ℕ) (ys : List ℕ) : Type 0 where
@@ -144,8 +186,12 @@ module _ (t : List ℕ) where
       let p = param-back m (writtenParams ms ++ ys) i ok (e ∙ append-assoc (writtenParam m) (writtenParams ms) ys) in
       let r = params-back ys (p .stop) rest (p .inside) (p .left) in
       record {
-        stop = r .stop; params = p .param ∷ r .params; derived = p .derived (r .stop) (r .params) (r .derived);
-        inside = r .inside; left = r .left; means = ap₂ (λ x xs. x ∷ xs) (p .means) (r .means)
+        stop = r .stop;
+        params = p .param ∷ r .params;
+        derived = p .derived (r .stop) (r .params) (r .derived);
+        inside = r .inside;
+        left = r .left;
+        means = ap₂ (λ x xs. x ∷ xs) (p .means) (r .means);
       }
 
   -- ---- links
@@ -161,7 +207,7 @@ module _ (t : List ℕ) where
   link-back : (m : LinkMeaning) (ys : List ℕ) (i : ℕ) → LinkText m → drop i t ≡ writtenLink m ++ ys → LinkBack m i ys
   link-back m ys i ok e =
       let start : Head t i 60 (m .target ++ 62 ∷ (writtenParams (m .params) ++ ys)) =
-          head t (e ∙ ap (λ (x : List ℕ). 60 ∷ x) (append-assoc (m .target) (62 ∷ writtenParams (m .params)) ys))
+      head t (e ∙ ap (λ (x : List ℕ). 60 ∷ x) (append-assoc (m .target) (62 ∷ writtenParams (m .params)) ys))
       in
       let target = target-spells t (62 ∷ (writtenParams (m .params) ++ ys)) (suc i) (ok .target) (start .inside) (start .left) in
       let close : Head t (target .stop) 62 (writtenParams (m .params) ++ ys) = head t (target .left) in
@@ -170,8 +216,9 @@ module _ (t : List ℕ) where
         stop = params .stop;
         link = record { targetFrom = suc i; targetTo = target .stop; params = params .params };
         derived = Grammar.link (at t start) (target .derived) (at t close) (params .derived);
-        inside = params .inside; left = params .left;
-        means = ap₂ (λ x y. record { target = x; params = y }) (target .spelt) (params .means)
+        inside = params .inside;
+        left = params .left;
+        means = ap₂ (λ x y. record { target = x; params = y }) (target .spelt) (params .means);
       }
 
   pub record LinksBack (ms : List LinkMeaning) (i : ℕ) : Type 0 where
@@ -188,8 +235,11 @@ module _ (t : List ℕ) where
   links-back i (each-more {x = m} ok each-none) h e =
       let l = link-back m [] i ok (e ∙ sym (append-nil (writtenLink m))) in
       record {
-        stop = l .stop; links = l .link ∷ []; derived = last (one (l .derived)); ended = left-none t (l .stop) (l .inside) (l .left);
-        means = ap (λ x. x ∷ []) (l .means)
+        stop = l .stop;
+        links = l .link ∷ [];
+        derived = last (one (l .derived));
+        ended = left-none t (l .stop) (l .inside) (l .left);
+        means = ap (λ x. x ∷ []) (l .means);
       }
   links-back i (each-more {x = m} ok (each-more {x = n} {xs = ms} ok₁ rest)) h e =
       let l = link-back m (44 ∷ 32 ∷ written (n ∷ ms)) i ok e in
@@ -197,7 +247,9 @@ module _ (t : List ℕ) where
       let space : Head t (suc (l .stop)) 32 (written (n ∷ ms)) = head t (part .left) in
       let r = links-back (suc (suc (l .stop))) (each-more ok₁ rest) (space .inside) (space .left) in
       record {
-        stop = r .stop; links = l .link ∷ r .links;
+        stop = r .stop;
+        links = l .link ∷ r .links;
         derived = comma (one (l .derived)) run-end (at t part) (run-more (is-in t space refl) run-end) (r .derived);
-        ended = r .ended; means = ap₂ (λ x xs. x ∷ xs) (l .means) (r .means)
+        ended = r .ended;
+        means = ap₂ (λ x xs. x ∷ xs) (l .means) (r .means);
       }

@@ -36,9 +36,11 @@ param-filled : (w u v : List ℕ) (j : ℕ) (p : Param)
 param-filled w u v j p e h =
     let r = p .nameFrom ∷ p .nameTo ∷ p .valueFrom ∷ p .valueTo ∷ p .form ∷ v in
     rw (
-      slot w u r (5 * j) 0 (5 * j) e h (omega arith), slot w u r (5 * j) 1 (5 * j + 1) e h refl,
-      slot w u r (5 * j) 2 (5 * j + 2) e h refl, slot w u r (5 * j) 3 (5 * j + 3) e h refl,
-      slot w u r (5 * j) 4 (5 * j + 4) e h refl
+      slot w u r (5 * j) 0 (5 * j) e h (omega arith),
+      slot w u r (5 * j) 1 (5 * j + 1) e h refl,
+      slot w u r (5 * j) 2 (5 * j + 2) e h refl,
+      slot w u r (5 * j) 3 (5 * j + 3) e h refl,
+      slot w u r (5 * j) 4 (5 * j + 4) e h refl,
     )
 
 pub params-filled : (w u v : List ℕ) (j : ℕ) (ps : List Param) → w ≡ u ++ (recordsOf ps ++ v) → length u ≡ 5 * j
@@ -76,7 +78,7 @@ module _ (w x : List ℕ) where
         params =
             s .params ∙ ap (λ (q : List ℕ). y ++ q) (append-assoc (recordsOf (l .params)) (paramRecords ls) z)
             ∙ sym (append-assoc y (recordsOf (l .params)) (paramRecords ls ++ z));
-        param-before = omega (arith, length-append y (recordsOf (l .params)), records-length (l .params), s .param-before)
+        param-before = omega (arith, length-append y (recordsOf (l .params)), records-length (l .params), s .param-before);
       }
 
   link-filled : {u v y z : List ℕ} {i n : ℕ} {l : Link} {ls : List Link} → Stand u v y z i n (l ∷ ls) → linkAt w x i ≡ l
@@ -85,9 +87,11 @@ module _ (w x : List ℕ) where
       let f = first-count s in
       rw (
         slot w u r (4 * i) 0 (4 * i) (s .links) (s .before) (omega arith),
-        slot w u r (4 * i) 1 (4 * i + 1) (s .links) (s .before) refl, f .0, f .1,
+        slot w u r (4 * i) 1 (4 * i + 1) (s .links) (s .before) refl,
+        f .0,
+        f .1,
         params-filled x y (paramRecords ls ++ z) n (l .params)
-        (s .params ∙ ap (λ (q : List ℕ). y ++ q) (append-assoc (recordsOf (l .params)) (paramRecords ls) z)) (s .param-before)
+            (s .params ∙ ap (λ (q : List ℕ). y ++ q) (append-assoc (recordsOf (l .params)) (paramRecords ls) z)) (s .param-before),
       )
 
   links-filled : {u v y z : List ℕ} {i n : ℕ} (ls : List Link) → Stand u v y z i n ls → linksFrom w x i (length ls) ≡ ls
@@ -99,11 +103,10 @@ module _ (w x : List ℕ) where
   follow-filled {n = n} [] s = sym (add-zero n)
   follow-filled {i = i} {n = n} (l ∷ ls) s =
       let f = first-count s in
-      let far : n + length (l .params) + countParams ls ≡ n + (length (l .params) + countParams ls) = omega arith in
-      (
+      let far : n + length (l .params) + countParams ls ≡ n + (length (l .params) + countParams ls) = omega arith in (
         f .0,
         subst₂ (λ (a b : ℕ). Follows w (suc i) (length ls) a b) (ap (λ (c : ℕ). n + c) (sym (f .1))) far
-        (follow-filled ls (on s))
+            (follow-filled ls (on s)),
       )
 
 from-start : (K : List Link) (X Y : List ℕ) → Stand (linkRecords 0 K ++ X) (paramRecords K ++ Y) [] X [] Y 0 0 K

@@ -11,14 +11,39 @@ use Rattle.octets.proofs.Octets.{both}
 use Rattle.grammar.specs.Link.{Link, Param}
 use Rattle.grammar.specs.Grammar
 use Rattle.grammar.specs.Grammar.{
-  rfc8288, Run, run-end, run-more, Token, Value, token, quoted, wider, Parameter, valueless, valued, Parameters, no-more, and-one
+  rfc8288,
+  Run,
+  run-end,
+  run-more,
+  Token,
+  Value,
+  token,
+  quoted,
+  wider,
+  Parameter,
+  valueless,
+  valued,
+  Parameters,
+  no-more,
+  and-one,
 }
 use Rattle.grammar.specs.Grammar.{link, empty, one, Items, last, comma}
 use Rattle.grammar.specs.Kept.{nameOf, among, isOnce, unless, keepAfter, keptLink, Reading}
 use Rattle.grammar.specs.Records.{linkRecords, paramRecords, countParams}
 use Rattle.grammar.proofs.Spans.{run-inside}
 use Rattle.tables.specs.Good.{
-  Each, each-none, each-more, onceEach, Span, GoodValue, no-value, token-value, quoted-value, GoodParam, GoodLink, Good
+  Each,
+  each-none,
+  each-more,
+  onceEach,
+  Span,
+  GoodValue,
+  no-value,
+  token-value,
+  quoted-value,
+  GoodParam,
+  GoodLink,
+  Good,
 }
 use Rattle.tables.specs.Laws.{filledTable, ReadTable, ReadGood}
 use Rattle.tables.proofs.Texts.{run-le, inside-le, target-le}
@@ -38,7 +63,8 @@ module _ (s : List ℕ) where
       record {
         name-span = token-span n;
         value-span = record { ordered = inside-le s t; inside = omega (arith, k .inside) };
-        name = n; value = quoted-value refl t
+        name = n;
+        value = quoted-value refl t;
       }
   value-good n (wider t x r) = absurd (false≢true (x .is))
 
@@ -47,7 +73,8 @@ module _ (s : List ℕ) where
       record {
         name-span = token-span n;
         value-span = record { ordered = omega arith; inside = token-span n .inside };
-        name = n; value = no-value refl refl refl
+        name = n;
+        value = no-value refl refl refl;
       }
   param-good (valued n bl q cl v) = value-good n v
 
@@ -93,6 +120,7 @@ module _ (s : List ℕ) where
     where
       n : List ℕ
       n = nameOf s p
+
       go : (x : Bool) → isOnce n ≡ x → (y : Bool) → among A n ≡ y
           → (Agree (n ∷ A) (n ∷ B) → onceEach s (n ∷ B) (keepAfter s (n ∷ A) ps) ≡ true)
           → (Agree (n ∷ A) B → onceEach s B (keepAfter s (n ∷ A) ps) ≡ true)
@@ -108,7 +136,9 @@ module _ (s : List ℕ) where
   link-good (link {ps = ps} q t k d) =
       record {
         target-span = record { ordered = target-le s t; inside = omega (arith, k .inside) };
-        target = t; params = keep-each [] (params-good d); once = once-kept [] [] ps (λ n o. refl)
+        target = t;
+        params = keep-each [] (params-good d);
+        once = once-kept [] [] ps (λ n o. refl);
       }
 
   items-good : {i j : ℕ} {ls : List Link} → Items rfc8288 s i j ls → Each (GoodLink s) (map (keptLink s) ls)
@@ -126,7 +156,7 @@ read-good h K X Y r =
             param-room = omega (arith, length-append (paramRecords K) Y, param-records-length K);
             follows = filled-follows K X;
             links =
-                rw (filled-links K X Y, r .kept) (items-good h (r .derived .items))
+                rw (filled-links K X Y, r .kept) (items-good h (r .derived .items));
           };
-      same-links = filled-links K X Y
+      same-links = filled-links K X Y;
     }

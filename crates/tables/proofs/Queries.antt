@@ -4,23 +4,34 @@ use native.Mathlib.Omega.{arith}
 use mathlib.Core.Path.{_≡_, refl, sym, ap, _∙_}
 use mathlib.Core.Logic.{_⊎_, inl, inr}
 use mathlib.Core.Bool.{Bool, true, false, _||_, not, true≢false}
-use mathlib.Core.List.{List, [], _∷_}
+use mathlib.Core.List.{List, [], _∷_, map}
 use mathlib.Core.Option.{Option, none, some}
 use lib.Dec.{eqb}
 use lib.ListN.{length, length-map}
 use borrow.Author.Tests.{eqb-true, eqb-false, eq-eqb, ne-eqb}
 use Rattle.octets.specs.Text.{octets}
 use Rattle.octets.specs.Sets.{between, oneOf}
-use Rattle.octets.specs.Fold.{fold, folded, sameFolded}
+use Rattle.octets.specs.Fold.{fold, folded, same, sameFolded}
 use Rattle.octets.proofs.Laws.{fold-other, same-false}
 use Rattle.octets.proofs.Octets.{between-bounds}
 use Rattle.grammar.specs.Link.{Link, Param}
+use Rattle.grammar.specs.Kept.{nameOf}
 use Rattle.tables.specs.Good.{Each, each-none, each-more}
 use Rattle.tables.specs.Relation.{
-  named, lengthen, splitAt, pieces, nonEmpty, runs, runsOf, relations, anyFolded, hasRelation
+  named,
+  lengthen,
+  splitAt,
+  pieces,
+  nonEmpty,
+  runs,
+  runsOf,
+  relations,
+  anyFolded,
+  hasRelation,
 }
-use Rattle.tables.specs.Meaning.{valueOf}
-use Rattle.tables.specs.Laws.{NoQuery}
+use Rattle.tables.specs.Meaning.{valueOf, ParamMeaning, paramMeaning, LinkMeaning}
+use Rattle.tables.proofs.Texts.{folded-folded}
+use Rattle.tables.specs.Laws.{RelationsMeant, QueryFolded, NoQuery}
 
 -- folding makes no SP and takes none away
 fold-space : (c : ℕ) → eqb 32 (fold c) ≡ eqb 32 c
@@ -98,6 +109,39 @@ unmatched {w} q bad r = same-false (folded w) (folded q) (λ e. differs bad e)
 none-matches : {ws : List (List ℕ)} (q : List ℕ) → NoRun q → Each IsRun ws → anyFolded q ws ≡ false
 none-matches q bad each-none = refl
 none-matches q bad (each-more r rest) = rw (unmatched q bad r, none-matches q bad rest)
+
+-- ---- relations by meaning
+
+-- the runs in the first value of the name n
+runsIn : List ℕ → List ParamMeaning → List (List ℕ)
+runsIn n [] = []
+runsIn n (m ∷ ms) = elim (same (m .name) n) [ true ↦ runs (m .value) | false ↦ runsIn n ms ]
+
+runs-meant : (s n : List ℕ) (ps : List Param) → runsOf s (named s n ps) ≡ runsIn n (map (paramMeaning s) ps)
+unfolding runsIn
+runs-meant s n [] = refl
+runs-meant s n (p ∷ ps) = go (same (nameOf s p) n) (runs-meant s n ps)
+  where
+    go : (b : Bool) → runsOf s (named s n ps) ≡ runsIn n (map (paramMeaning s) ps)
+        → runsOf s (elim b as (λ _. Option Param) [ true ↦ some p | false ↦ named s n ps ])
+        ≡ elim b as (λ _. List (List ℕ)) [ true ↦ runs (valueOf s p) | false ↦ runsIn n (map (paramMeaning s) ps) ]
+    go true h = refl
+    go false h = h
+
+pub relations-meant : RelationsMeant
+unfolding relations
+relations-meant s u l m e =
+    runs-meant s (octets "rel") (l .params) ∙ ap (λ (x : LinkMeaning). runsIn (octets "rel") (x .params)) e
+    ∙ sym (runs-meant u (octets "rel") (m .params))
+
+any-folded : (q : List ℕ) (ws : List (List ℕ)) → anyFolded (folded q) ws ≡ anyFolded q ws
+unfolding sameFolded
+any-folded q [] = refl
+any-folded q (w ∷ ws) = rw (folded-folded q, any-folded q ws)
+
+pub query-folded : QueryFolded
+unfolding hasRelation
+query-folded s q l = any-folded q (relations s l)
 
 pub no-query : NoQuery
 unfolding hasRelation relations NoRun

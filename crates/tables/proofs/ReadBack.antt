@@ -10,7 +10,7 @@ use lib.ListN.{length, getD, length-map}
 use lib.Seq.{slice, slice-empty, slice-cons}
 use Rattle.octets.specs.Sets.{all, isToken, isEscapable}
 use Rattle.octets.specs.Fold.{fold, folded}
-use Rattle.octets.proofs.Laws.{fold-fold, fold-token, token-plain, plain-escapable}
+use Rattle.octets.proofs.Laws.{fold-token, token-plain, plain-escapable}
 use Rattle.octets.proofs.Octets.{both}
 use Rattle.grammar.specs.Link.{Link, Param}
 use Rattle.grammar.specs.Grammar.{rfc8288, Token, Run, run-end, run-more}
@@ -20,15 +20,34 @@ use Rattle.grammar.proofs.Readings.{one-reading}
 use Rattle.grammar.proofs.Editions.{apart8288}
 use Rattle.tables.specs.Table.{Table, paramsFrom, firstOf, countOf, linksFrom, linksOf}
 use Rattle.tables.specs.Good.{
-  Each, each-none, each-more, onceEach, Span, GoodValue, no-value, token-value, quoted-value, GoodParam, GoodLink, Good,
-  Follows
+  Each,
+  each-none,
+  each-more,
+  onceEach,
+  Span,
+  GoodValue,
+  no-value,
+  token-value,
+  quoted-value,
+  GoodParam,
+  GoodLink,
+  Good,
+  Follows,
 }
 use Rattle.tables.specs.Meaning.{
-  unescape, unescapeFrom, valueOf, ParamMeaning, paramMeaning, LinkMeaning, linkMeaning, meanings, tableMeanings
+  unescape,
+  unescapeFrom,
+  valueOf,
+  ParamMeaning,
+  paramMeaning,
+  LinkMeaning,
+  linkMeaning,
+  meanings,
+  tableMeanings,
 }
 use Rattle.tables.specs.Written.{written}
 use Rattle.tables.specs.Laws.{ReadsBack, ReadBack, WrittenTells}
-use Rattle.tables.proofs.Texts.{run-text, target-text, inside-text, run-le}
+use Rattle.tables.proofs.Texts.{folded-folded, run-text, target-text, inside-text, run-le}
 use Rattle.tables.proofs.Back.{NameText, name-text, ParamText, LinkText, LinksBack, links-back}
 
 -- ---- the meanings of a good table can be written and read again
@@ -42,10 +61,6 @@ all-folded [] e = refl
 all-folded (c ∷ xs) e =
     let x = both (isToken c) (all isToken xs) e in
     rw (fold-token c (x .0), all-folded xs (x .1))
-
-folded-folded : (xs : List ℕ) → folded (folded xs) ≡ folded xs
-folded-folded [] = refl
-folded-folded (c ∷ xs) = rw (fold-fold c, folded-folded xs)
 
 module _ (s : List ℕ) where
   folded-name : {a e : ℕ} → e ≤ length s → Token s a e → NameText (folded (slice a e s))
@@ -146,7 +161,7 @@ read-back t g =
     let ms = tableMeanings t in
     let b = links-back (written ms) 0 (links-text (t .text) (g .links)) (omega arith) refl in
     let once : Each Once (meanings (written ms) (b .links)) =
-        subst (λ (x : List LinkMeaning). Each Once x) (sym (b .means)) (all-once (t .text) (g .links))
+    subst (λ (x : List LinkMeaning). Each Once x) (sym (b .means)) (all-once (t .text) (g .links))
     in
     record {
       links = b .links;
@@ -155,10 +170,15 @@ read-back t g =
             links = b .links;
             derived =
                 record {
-                  start = 0; stop = b .stop; end = b .stop; before = run-end; items = b .derived; after = run-end;
-                  whole = b .ended
+                  start = 0;
+                  stop = b .stop;
+                  end = b .stop;
+                  before = run-end;
+                  items = b .derived;
+                  after = run-end;
+                  whole = b .ended;
                 };
-            kept = sym (keeps-all (written ms) (b .links) once)
+            kept = sym (keeps-all (written ms) (b .links) once);
           };
       link-count =
           sym (length-map (b .links) (linkMeaning (written ms))) ∙ ap length (b .means)
@@ -166,7 +186,7 @@ read-back t g =
       param-count =
           sym (count-meant (written ms) (b .links)) ∙ ap countOfMeanings (b .means) ∙ count-meant (t .text) (linksOf t)
           ∙ sym (zero-add _) ∙ followed (t .linkSlots) (t .paramSlots) 0 (t .linkCount) 0 (t .paramCount) (g .follows);
-      same-meanings = b .means
+      same-meanings = b .means;
     }
 
 pub written-tells : WrittenTells
@@ -176,6 +196,6 @@ written-tells t u g h e =
     let w = written (tableMeanings t) in
     let reads : Reading rfc8288 w (b .links) = subst (λ (x : List ℕ). Reading rfc8288 x (b .links)) (sym e) (b .reads) in
     let same : meanings w (b .links) ≡ tableMeanings u =
-        subst (λ (x : List ℕ). meanings x (b .links) ≡ tableMeanings u) (sym e) (b .same-meanings)
+    subst (λ (x : List ℕ). meanings x (b .links) ≡ tableMeanings u) (sym e) (b .same-meanings)
     in
     sym (a .same-meanings) ∙ ap (meanings w) (one-reading rfc8288 apart8288 w (a .links) (b .links) (a .reads) reads) ∙ same

@@ -12,7 +12,20 @@ use Rattle.octets.specs.Sets.{all, isEscapable, isPlain, isTarget, isHex}
 use Rattle.octets.proofs.Laws.{escapable-plain}
 use Rattle.octets.proofs.Octets.{both}
 use Rattle.grammar.specs.Grammar.{
-  In, At, Run, run-end, run-more, Some, Inside, inside-end, plain, pair, Target, target-end, octet, triple
+  In,
+  At,
+  Run,
+  run-end,
+  run-more,
+  Some,
+  Inside,
+  inside-end,
+  plain,
+  pair,
+  Target,
+  target-end,
+  octet,
+  triple,
 }
 use Rattle.grammar.proofs.Exact.{left-some}
 use Rattle.tables.specs.Written.{escape, escapeOctet}
@@ -52,10 +65,13 @@ module _ (t : List ℕ) where
       → Spells t D (suc i) xs ys → Spells t E i (c ∷ xs) ys
   more {i = i} {c = c} h f s =
       record {
-        stop = s .stop; derived = f (s .stop) (s .derived); forward = omega (arith, s .forward); inside = s .inside;
+        stop = s .stop;
+        derived = f (s .stop) (s .derived);
+        forward = omega (arith, s .forward);
+        inside = s .inside;
         spelt = slice-cons i (s .stop) t 0 (s .forward) (s .inside) ∙ ap (λ (x : ℕ). x ∷ slice (suc i) (s .stop) t) (h .is)
-        ∙ ap (λ (x : List ℕ). c ∷ x) (s .spelt);
-        left = s .left
+            ∙ ap (λ (x : List ℕ). c ∷ x) (s .spelt);
+        left = s .left;
       }
 
   pub run-spells : {f : ℕ → Bool} (xs ys : List ℕ) (i : ℕ) → all f xs ≡ true → i ≤ length t → drop i t ≡ xs ++ ys
@@ -95,6 +111,7 @@ module _ (t : List ℕ) where
     where
       ok : (isEscapable c ≡ true) × (all isEscapable v ≡ true)
       ok = both (isEscapable c) (all isEscapable v) a
+
       escaped : drop i t ≡ 92 ∷ c ∷ (escape v ++ ys)
           → ((j : ℕ) → all isEscapable v ≡ true → j ≤ length t → drop j t ≡ escape v ++ ys → Spells t (Inside t) j (escape v) ys)
           → Spells t (Inside t) i (92 ∷ c ∷ escape v) ys
@@ -103,6 +120,7 @@ module _ (t : List ℕ) where
           let d₁ : Head (suc i) c (escape v ++ ys) = head (d .left) in
           more {D = λ (_ : ℕ) (j : ℕ). Inside t (suc (suc i)) j} d (λ j x. pair (at d) (is-in d₁ (ok .0)) x)
           (more d₁ (λ j x. x) (rest (suc (suc i)) (ok .1) (d₁ .inside) (d₁ .left)))
+
       go : (x : Bool) → eqb c 34 ≡ x → (y : Bool) → eqb c 92 ≡ y → drop i t ≡ cond (x || y) (92 ∷ c ∷ escape v) (c ∷ escape v) ++ ys
           → ((j : ℕ) → all isEscapable v ≡ true → j ≤ length t → drop j t ≡ escape v ++ ys → Spells t (Inside t) j (escape v) ys)
           → Spells t (Inside t) i (cond (x || y) (92 ∷ c ∷ escape v) (c ∷ escape v)) ys

@@ -8,9 +8,22 @@ use lib.Dec.{eqb}
 use lib.ListN.{length, getD}
 use lib.Seq.{slice, slice-empty, slice-cons}
 use Rattle.octets.specs.Sets.{all, isToken, isPlain, isEscapable, isTarget, isHex}
-use Rattle.octets.proofs.Laws.{plain-escapable}
+use Rattle.octets.specs.Fold.{folded}
+use Rattle.octets.proofs.Laws.{plain-escapable, fold-fold}
 use Rattle.grammar.specs.Grammar.{
-  In, At, Run, run-end, run-more, Inside, inside-end, plain, pair, Target, target-end, octet, triple
+  In,
+  At,
+  Run,
+  run-end,
+  run-more,
+  Inside,
+  inside-end,
+  plain,
+  pair,
+  Target,
+  target-end,
+  octet,
+  triple,
 }
 use Rattle.grammar.proofs.Classes.{plain-not-backslash}
 use Rattle.tables.specs.Meaning.{unescapeFrom}
@@ -20,6 +33,10 @@ pub data TargetText : List ℕ → Type 0 where
   target-none : TargetText []
   target-octet : {c : ℕ} {cs : List ℕ} → isTarget c ≡ true → TargetText cs → TargetText (c ∷ cs)
   target-triple : {a b : ℕ} {cs : List ℕ} → isHex a ≡ true → isHex b ≡ true → TargetText cs → TargetText (37 ∷ a ∷ b ∷ cs)
+
+pub folded-folded : (xs : List ℕ) → folded (folded xs) ≡ folded xs
+folded-folded [] = refl
+folded-folded (c ∷ xs) = rw (fold-fold c, folded-folded xs)
 
 -- a backslash is taken out, and any other octet stays
 pub unescape-pair : (d : ℕ) (cs : List ℕ) → unescapeFrom false (92 ∷ d ∷ cs) ≡ d ∷ unescapeFrom false cs
@@ -63,8 +80,10 @@ module _ (s : List ℕ) where
   inside-text {i} k inside-end = rw (slice-empty i s)
   inside-text {i} {j} k (plain c r) =
       rw (
-        begins (inside-le r) k refl, unescape-plain (getD s i 0) (slice (suc i) j s) (plain-not-backslash _ (c .is)),
-        plain-escapable _ (c .is), inside-text k r
+        begins (inside-le r) k refl,
+        unescape-plain (getD s i 0) (slice (suc i) j s) (plain-not-backslash _ (c .is)),
+        plain-escapable _ (c .is),
+        inside-text k r,
       )
   inside-text {i} {j} k (pair b c r) =
       let h : suc (suc i) ≤ j = inside-le r in

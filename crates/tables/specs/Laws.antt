@@ -6,15 +6,25 @@ use mathlib.Core.Bool.{true, false}
 use mathlib.Core.List.{List, [], _++_}
 use lib.ListN.{length}
 use Rattle.octets.specs.Sets.{oneOf}
+use Rattle.octets.specs.Fold.{folded}
 use Rattle.grammar.specs.Link.{Link}
 use Rattle.grammar.specs.Grammar.{rfc8288}
 use Rattle.grammar.specs.Kept.{Reading}
 use Rattle.grammar.specs.Records.{linkRecords, paramRecords, countParams}
 use Rattle.tables.specs.Table.{Table, linksOf}
 use Rattle.tables.specs.Good.{Good}
-use Rattle.tables.specs.Meaning.{meanings, tableMeanings}
-use Rattle.tables.specs.Relation.{hasRelation}
+use Rattle.tables.specs.Meaning.{linkMeaning, meanings, tableMeanings}
+use Rattle.tables.specs.Relation.{relations, hasRelation}
 use Rattle.tables.specs.Written.{written}
+
+-- a link's relations are told by its meaning alone: backslashes are out
+abbrev pub RelationsMeant : Type 0
+RelationsMeant =
+    (s u : List ℕ) (l m : Link) → linkMeaning s l ≡ linkMeaning u m → relations s l ≡ relations u m
+
+-- and are compared folded
+abbrev pub QueryFolded : Type 0
+QueryFolded = (s q : List ℕ) (l : Link) → hasRelation s (folded q) l ≡ hasRelation s q l
 
 -- an empty query, or one with an SP, matches nothing
 abbrev pub NoQuery : Type 0
@@ -29,8 +39,11 @@ GoodDecided = (t : Table) → Dec (Good t)
 abbrev pub filledTable : List ℕ → List Link → List ℕ → List ℕ → Table
 filledTable h K X Y =
     record {
-      text = h; linkSlots = linkRecords 0 K ++ X; paramSlots = paramRecords K ++ Y; linkCount = length K;
-      paramCount = countParams K
+      text = h;
+      linkSlots = linkRecords 0 K ++ X;
+      paramSlots = paramRecords K ++ Y;
+      linkCount = length K;
+      paramCount = countParams K;
     }
 
 -- what is read is a good table, and its links are those of the reading

@@ -16,8 +16,11 @@ pub record Table : Type 0 where
 abbrev pub paramAt : List ℕ → ℕ → Param
 paramAt P j =
     record {
-      nameFrom = getD P (5 * j) 0; nameTo = getD P (5 * j + 1) 0; valueFrom = getD P (5 * j + 2) 0;
-      valueTo = getD P (5 * j + 3) 0; form = getD P (5 * j + 4) 0
+      nameFrom = getD P (5 * j) 0;
+      nameTo = getD P (5 * j + 1) 0;
+      valueFrom = getD P (5 * j + 2) 0;
+      valueTo = getD P (5 * j + 3) 0;
+      form = getD P (5 * j + 4) 0;
     }
 
 -- n parameter records from number j on
