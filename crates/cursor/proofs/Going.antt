@@ -1,0 +1,37 @@
+-- A loop that passes octets of a set f, from place a: it stands at i.
+use Prim.Native.Nat.{ℕ, suc, _+_, _≤_, _<_}
+use native.Mathlib.Omega.{arith}
+use native.Mathlib.Numerals.{add-one}
+use mathlib.Core.Path.{_≡_, subst, sym}
+use mathlib.Core.Bool.{Bool, true, false}
+use mathlib.Core.List.{List}
+use lib.ListN.{length, getD}
+use Rattle.grammar.specs.Grammar.{In, Run, run-end, run-more}
+use Rattle.cursor.specs.Passed.{Passed}
+
+pub record Going (f : ℕ → Bool) (s : List ℕ) (a i : ℕ) : Type 0 where
+  pub forward : a ≤ i
+  pub inside : i ≤ length s
+  pub run : Run s f a i
+
+module _ {f : ℕ → Bool} {s : List ℕ} where
+  pub run-snoc : {a i : ℕ} → Run s f a i → In s f i → Run s f a (suc i)
+  run-snoc run-end c = run-more c run-end
+  run-snoc (run-more b r) c = run-more b (run-snoc r c)
+
+  pub begin : {a : ℕ} → a ≤ length s → Going f s a a
+  begin h = record { forward = omega arith; inside = h; run = run-end }
+
+  pub more : {a i : ℕ} → Going f s a i → i < length s → f (getD s i 0) ≡ true → Going f s a (i + 1)
+  more {a} {i} g h e =
+      record {
+        forward = omega (arith, g .forward);
+        inside = omega arith;
+        run = rw (add-one i) (run-snoc (g .run) (record { inside = h; is = e }));
+      }
+
+  pub at-end : {a i : ℕ} → Going f s a i → length s ≤ i → Passed f s a i
+  at-end g h = record { forward = g .forward; inside = g .inside; run = g .run; stops = λ l. absurd (omega arith) }
+
+  pub stop : {a i : ℕ} → Going f s a i → f (getD s i 0) ≡ false → Passed f s a i
+  stop g e = record { forward = g .forward; inside = g .inside; run = g .run; stops = λ l. e }

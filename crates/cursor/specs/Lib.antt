@@ -1,0 +1,2 @@
+-- What the crate `cursor` means by its words.
+pub mod Passed

@@ -1,0 +1,2 @@
+-- Laws of stores into slots.
+pub mod Stored

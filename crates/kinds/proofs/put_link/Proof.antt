@@ -1,0 +1,68 @@
+-- The four stores are the record's numbers, over the slots.
+use native.Mathlib.Omega.{arith}
+use borrow.Author.Needs.{needs}
+use lib.ListN.{length-set}
+use Rattle.kinds.proofs.Stored.{link-stored}
+use Rattle.kinds.proofs.put_link.Statement.{statement}
+use Rattle.kinds.proofs.put_link.Tie as tie
+
+mul-at : tie.Need-mul-at
+mul-at c = search needs
+
+mul-slots : tie.Need-mul-slots
+mul-slots c = search needs
+
+slice-write-slots : tie.Need-slice-write-slots
+slice-write-slots c = search needs
+
+add-slots : tie.Need-add-slots
+add-slots c = search needs
+
+mul-slots-2 : tie.Need-mul-slots-2
+mul-slots-2 c = search needs
+
+slice-write-slots-2 : tie.Need-slice-write-slots-2
+slice-write-slots-2 c = simp length-set (omega arith)
+
+add-slots-2 : tie.Need-add-slots-2
+add-slots-2 c = search needs
+
+mul-slots-3 : tie.Need-mul-slots-3
+mul-slots-3 c = search needs
+
+slice-write-slots-3 : tie.Need-slice-write-slots-3
+slice-write-slots-3 c = simp length-set (omega arith)
+
+add-slots-3 : tie.Need-add-slots-3
+add-slots-3 c = search needs
+
+mul-slots-4 : tie.Need-mul-slots-4
+mul-slots-4 c = search needs
+
+slice-write-slots-4 : tie.Need-slice-write-slots-4
+slice-write-slots-4 c = simp length-set (omega arith)
+
+same-length : tie.Need-same-length
+same-length c = search needs
+
+returns : tie.Need-returns
+returns c = link-stored _ _ _ _ _ _ (c .before .pre)
+
+pub put-link-spec : {M : Type 1} → statement M
+put-link-spec =
+    tie.close
+    (tie.spec
+    mul-at
+    mul-slots
+    slice-write-slots
+    add-slots
+    mul-slots-2
+    slice-write-slots-2
+    add-slots-2
+    mul-slots-3
+    slice-write-slots-3
+    add-slots-3
+    mul-slots-4
+    slice-write-slots-4
+    same-length
+    returns)
