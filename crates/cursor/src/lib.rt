@@ -2,8 +2,8 @@
 ghost use mathlib.Core.Path.{_≡_};
 ghost use Prim.Native.Nat.{_+_, _≤_, _<_};
 ghost use lib.ListN.{length};
-ghost use Rattle.octets.specs.Sets.{isBlank, isToken};
-ghost use Rattle.cursor.specs.Passed.{Passed};
+ghost use Rattle.octets.specs.Sets.{isBlank, isToken, isPlain, isTarget};
+ghost use Rattle.cursor.specs.Passed.{Passed, Looked};
 use kinds::Place;
 
 pub struct Cursor {
@@ -15,6 +15,17 @@ impl Cursor {
         ensures { λ r. ⌜ r .at .0 ≡ 0 ⌝ }
     {
         Cursor { at: Place(0) }
+    }
+
+    // Whether the octet c stands here.
+    pub fn sees(self, s: &[u8], c: u8) -> bool
+        ensures { λ r. ⌜ Looked (now (s .entry)) (self .at .0) c r ⌝ }
+    {
+        let i = self.at.0;
+        if i < s.len() {
+            return s[i] == c;
+        }
+        false
     }
 
     // Past one octet.
@@ -46,6 +57,30 @@ impl Cursor {
     {
         let mut i = self.at.0;
         while i < s.len() && octets::sets::is_token(s[i]) {
+            i += 1;
+        }
+        Cursor { at: Place(i) }
+    }
+
+    // Past a run of octets that stand for themselves in a target.
+    pub fn past_target(self, s: &[u8]) -> Cursor
+        requires { ⌜ self .at .0 ≤ length (now s) ⌝ }
+        ensures { λ r. ⌜ Passed isTarget (now (s .entry)) (self .at .0) (r .at .0) ⌝ }
+    {
+        let mut i = self.at.0;
+        while i < s.len() && octets::sets::is_target(s[i]) {
+            i += 1;
+        }
+        Cursor { at: Place(i) }
+    }
+
+    // Past a run of octets that stand for themselves in a quoted string.
+    pub fn past_plain(self, s: &[u8]) -> Cursor
+        requires { ⌜ self .at .0 ≤ length (now s) ⌝ }
+        ensures { λ r. ⌜ Passed isPlain (now (s .entry)) (self .at .0) (r .at .0) ⌝ }
+    {
+        let mut i = self.at.0;
+        while i < s.len() && octets::sets::is_plain(s[i]) {
             i += 1;
         }
         Cursor { at: Place(i) }

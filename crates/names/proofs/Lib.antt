@@ -1,0 +1,3 @@
+-- The laws of codes and of what has been seen, for other crates to cite.
+pub mod Codes
+pub mod Seeing

@@ -1,0 +1,12 @@
+-- The expression is that of the definition.
+use mathlib.Core.Path.{refl}
+use Rattle.names.specs.Holds.{hasCode}
+use Rattle.names.proofs.Seen.has.Statement.{statement}
+use Rattle.names.proofs.Seen.has.Tie as tie
+
+returns : tie.Need-returns
+unfolding hasCode
+returns c = refl
+
+pub has-spec : {M : Type 1} → statement M
+has-spec = tie.close (tie.spec returns)

@@ -1,0 +1,3 @@
+-- What the crate `names` means by its words.
+pub mod Code
+pub mod Holds

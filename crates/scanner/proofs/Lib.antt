@@ -1,0 +1,5 @@
+-- Laws of where the machine stands.
+pub mod Standing
+pub mod Targets
+pub mod Quoted
+pub mod Params

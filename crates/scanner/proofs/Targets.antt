@@ -1,0 +1,146 @@
+-- Scanning a target: what is passed is derived, and where nothing fits the header is malformed.
+use Prim.Native.Nat.{ℕ, suc, _+_, _≤_, _<_}
+use native.Mathlib.Omega.{arith}
+use native.Mathlib.Numerals.{add-one}
+use mathlib.Core.Path.{_≡_, refl, sym, ap, subst, _∙_}
+use mathlib.Core.Bool.{Bool, true, false, not}
+use mathlib.Core.List.{List}
+use lib.Dec.{eqb}
+use lib.ListN.{length, getD}
+use borrow.Author.Tests.{not-false, ne-eqb}
+use Rattle.octets.specs.Sets.{isTarget, isHex}
+use Rattle.grammar.specs.Link.{Link}
+use Rattle.grammar.specs.Grammar.{rfc8288, At, In, Run, run-end, run-more, Target, target-end, octet, triple}
+use Rattle.grammar.proofs.Machine.{State, target, percent, hex, step}
+use Rattle.cursor.specs.Passed.{Passed}
+use Rattle.kinds.specs.declared.Place.{Place}
+use Rattle.cursor.specs.declared.Cursor.{Cursor}
+use Rattle.scanner.specs.declared.Scan.{Scan}
+use Rattle.scanner.specs.declared.Scan.the-variants.{Stuck, Past}
+use Rattle.scanner.specs.Stands.{Stands, Halts}
+use Rattle.scanner.specs.Scanned.{TripleScan, no-digit, digits, TargetScan, closed}
+use Rattle.scanner.proofs.Standing.{stands-on, stands-run, halts-at, halts-end}
+
+-- how far a target has been passed, from place a: to i, where no target octet stands
+pub record Going (s : List ℕ) (a i : ℕ) : Type 0 where
+  pub derived : Target s a i
+  pub forward : a ≤ i
+  pub inside : i ≤ length s
+  pub stops : i < length s → isTarget (getD s i 0) ≡ false
+
+module _ {s : List ℕ} where
+  -- ---- two hex digits
+
+  -- the test of a digit, as the code makes it
+  pub hex-at : {a : ℕ} {b : Bool} → a < length s → b ≡ isHex (getD s a 0) → not b ≡ false → In s isHex a
+  hex-at {b = b} h e f = record { inside = h; is = sym e ∙ not-false b f }
+
+  after-first : {a : ℕ} (ls : List Link) (b : ℕ) → In s isHex a → Stands s (percent ls b) a → Stands s (hex ls b) (suc a)
+  after-first ls b x p = stands-on (hex ls b) p (x .inside) (rw (x .is))
+
+  pub first-missing : (a : ℕ) → length s ≤ a → (ls : List Link) (b : ℕ) → Stands s (percent ls b) a → Halts s a
+  first-missing a h ls b p = halts-end p refl h refl
+
+  pub first-wrong : (a : ℕ) → a < length s → isHex (getD s a 0) ≡ false → (ls : List Link) (b : ℕ)
+      → Stands s (percent ls b) a → Halts s a
+  first-wrong a h e ls b p = halts-at p refl h (rw e)
+
+  pub second-missing : (a j : ℕ) → In s isHex a → j ≡ a + 1 → length s ≤ j → (ls : List Link) (b : ℕ)
+      → Stands s (percent ls b) a → Halts s j
+  second-missing a j x e h ls b p =
+      let k : suc a ≡ j = sym (e ∙ add-one a) in
+      subst (Halts s) k (halts-end (after-first ls b x p) refl (omega arith) refl)
+
+  pub second-wrong : (a j : ℕ) → In s isHex a → j ≡ a + 1 → j < length s → isHex (getD s j 0) ≡ false → (ls : List Link) (b : ℕ)
+      → Stands s (percent ls b) a → Halts s j
+  second-wrong a j x e h f ls b p =
+      let k : j ≡ suc a = e ∙ add-one a in
+      subst (Halts s) (sym k)
+      (halts-at (after-first ls b x p) refl (omega arith) (rw (subst (λ (n : ℕ). isHex (getD s n 0) ≡ false) k f)))
+
+  pub both-there : {a j : ℕ} {c : Cursor} → In s isHex a → j ≡ a + 1 → In s isHex j → c .at .0 ≡ j + 1
+      → TripleScan s a (Past c)
+  both-there {a} {j} {c} x e y f =
+      let k : c .at .0 ≡ suc (suc a) = omega arith in
+      digits k x (subst (In s isHex) (e ∙ add-one a) y)
+
+  -- ---- a target
+
+  pub run-target : {a e : ℕ} → Run s isTarget a e → Target s a e
+  run-target run-end = target-end
+  run-target (run-more c r) = octet c (run-target r)
+
+  pub target-append : {a i j : ℕ} → Target s a i → Target s i j → Target s a j
+  target-append target-end u = u
+  target-append (octet c t) u = octet c (target-append t u)
+  target-append (triple p x y t) u = triple p x y (target-append t u)
+
+  pub target-stands : {a e : ℕ} (ls : List Link) (b : ℕ) → Target s a e → Stands s (target ls b) a → Stands s (target ls b) e
+  unfolding isTarget
+  target-stands ls b target-end p = p
+  target-stands ls b (octet c t) p = target-stands ls b t (stands-on (target ls b) p (c .inside) (rw (c .is)))
+  target-stands ls b (triple q x y t) p =
+      target-stands ls b t
+      (stands-on (target ls b)
+      (stands-on (hex ls b) (stands-on (percent ls b) p (q .inside) (rw (q .is))) (x .inside) (rw (x .is))) (y .inside)
+      (rw (y .is)))
+
+  -- behind a first run
+  pub begin : {a b : ℕ} → Passed isTarget s a b → Going s b b
+  begin p = record { derived = target-end; forward = omega arith; inside = p .inside; stops = p .stops }
+
+  pub since : {a b i : ℕ} → Passed isTarget s a b → Going s b i → Going s a i
+  since p g =
+      record {
+        derived = target-append (run-target (p .run)) (g .derived); forward = omega (arith, p .forward, g .forward);
+        inside = g .inside; stops = g .stops
+      }
+
+  past-digits : {j : ℕ} {d : Cursor} {r : Scan} → TripleScan s j r → r ≡ Past d
+      → (d .at .0 ≡ suc (suc j)) × In s isHex j × In s isHex (suc j)
+  past-digits {j} t w = go (subst (TripleScan s j) w t)
+    where
+      go : {d : Cursor} → TripleScan s j (Past d) → (d .at .0 ≡ suc (suc j)) × In s isHex j × In s isHex (suc j)
+      go (digits e x y) = (e, x, y)
+
+  -- a triple, and a run behind it
+  pub on : {a i j e : ℕ} {d : Cursor} {r : Scan} → Going s a i → i < length s → getD s i 0 ≡ 37 → j ≡ i + 1
+      → TripleScan s j r → r ≡ Past d → Passed isTarget s (d .at .0) e → Going s a e
+  on {a} {i} {j} {e} {d} g h c k u w p =
+      let n : j ≡ suc i = k ∙ add-one i in
+      let t = past-digits u w in
+      let q : At s i 37 = record { inside = h; is = c } in
+      record {
+        derived =
+            target-append (g .derived)
+            (triple q (subst (In s isHex) n (t .1)) (subst (λ (x : ℕ). In s isHex (suc x)) n (t .2))
+            (subst (λ (x : ℕ). Target s x e) (t .0 ∙ ap (λ (x : ℕ). suc (suc x)) n) (run-target (p .run))));
+        forward = omega (arith, g .forward, p .forward); inside = p .inside; stops = p .stops
+      }
+
+  -- the cursor behind a triple is in the text
+  pub past-inside : {j : ℕ} {d : Cursor} {r : Scan} → TripleScan s j r → r ≡ Past d → (suc j ≤ d .at .0) × (d .at .0 ≤ length s)
+  past-inside u w = let t = past-digits u w in (omega (arith, t .0), omega (arith, t .0, t .2 .inside))
+
+  pub cut-short : {a i : ℕ} → Going s a i → length s ≤ i → (ls : List Link) (b : ℕ) → Stands s (target ls b) a → Halts s i
+  cut-short g h ls b p = halts-end (target-stands ls b (g .derived) p) refl h refl
+
+  pub is-closed : {a : ℕ} {c : Cursor} → Going s a (c .at .0) → c .at .0 < length s → getD s (c .at .0) 0 ≡ 62
+      → TargetScan s a (Past c)
+  is-closed g h e = closed (g .derived) (record { inside = h; is = e })
+
+  pub no-octet : {a i : ℕ} → Going s a i → i < length s → (getD s i 0 ≡ 62 → ⊥) → (getD s i 0 ≡ 37 → ⊥)
+      → (ls : List Link) (b : ℕ) → Stands s (target ls b) a → Halts s i
+  no-octet g h e f ls b p = halts-at (target-stands ls b (g .derived) p) refl h (rw (g .stops h, ne-eqb _ 37 f, ne-eqb _ 62 e))
+
+  pub no-triple : {a i j : ℕ} {q : Place} {r : Scan} → Going s a i → i < length s → getD s i 0 ≡ 37 → j ≡ i + 1
+      → TripleScan s j r → r ≡ Stuck q → (ls : List Link) (b : ℕ)
+      → Stands s (target ls b) a → Halts s (q .0)
+  unfolding isTarget
+  no-triple {i = i} {j = j} g h c k t e ls b p =
+      go (subst (TripleScan s j) e t)
+      (subst (Stands s (percent ls b)) (sym (k ∙ add-one i))
+      (stands-on (percent ls b) (target-stands ls b (g .derived) p) h (rw c)))
+    where
+      go : {q : Place} → TripleScan s j (Stuck q) → Stands s (percent ls b) j → Halts s (q .0)
+      go (no-digit f) p = f ls b p

@@ -1,0 +1,4 @@
+-- What the functions of the crate `scanner` promise one another.
+pub mod Stands
+pub mod Parsed
+pub mod Scanned
