@@ -54,7 +54,7 @@ isDead (quote o n e v) = false
 isDead (escape o n e v) = false
 isDead dead = true
 
-is-dead : (st : State) → isDead st ≡ true → st ≡ dead
+pub is-dead : (st : State) → isDead st ≡ true → st ≡ dead
 is-dead (gap ls) e = absurd (false≢true e)
 is-dead (target ls a) e = absurd (false≢true e)
 is-dead (percent ls a) e = absurd (false≢true e)

@@ -3,3 +3,5 @@ pub mod Standing
 pub mod Targets
 pub mod Quoted
 pub mod Params
+pub mod Links
+pub mod Headers

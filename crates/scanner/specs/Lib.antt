@@ -2,3 +2,4 @@
 pub mod Stands
 pub mod Parsed
 pub mod Scanned
+pub mod Linked

@@ -8,6 +8,9 @@ ghost use Rattle.scanner.specs.Scanned.{TripleScan, TargetScan, InsideSc
 use cursor::Cursor;
 use kinds::{ParamRecord, Place, Span};
 
+pub mod header;
+pub mod link;
+
 // Where a scan ended: the place at which the header is malformed, or the cursor past what was asked.
 pub enum Scan {
     Stuck(Place),
@@ -24,6 +27,18 @@ pub enum ValueScan {
 pub enum ParamScan {
     NoParam(Place),
     Param(ParamRecord, Cursor),
+}
+
+// A link's cursor behind its parameters, at a comma or the end, and how many of them are kept.
+pub enum LinkScan {
+    NoLink(Place),
+    Whole(Cursor, usize),
+}
+
+// How many links and kept parameters a header has.
+pub enum HeaderScan {
+    Malformed(Place),
+    Counted(usize, usize),
 }
 
 // Two hex digits, behind `%`.

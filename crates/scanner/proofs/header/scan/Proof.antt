@@ -1,0 +1,118 @@
+-- Each turn passes an empty place or a link; each return says why it ended there.
+use Prim.Native.Nat.{_-_}
+use native.Mathlib.Omega.{arith}
+use lib.ListN.{length}
+use borrow.Author.Needs.{needs}
+use borrow.Author.Tests.{not-false}
+use Rattle.scanner.proofs.Headers.{Between, start, ended, comma, no-start, link-stuck, whole-forward, link-ended, link-comma}
+use Rattle.scanner.proofs.header.scan.Statement.{statement}
+use Rattle.scanner.proofs.header.scan.Tie as tie
+
+abbrev Inv-loop : tie.InvT-loop
+Inv-loop s c₀ links₀ params₀ c links params = Between s (c .at .0) links params
+
+abbrev μ-loop : tie.MeasureT-loop
+μ-loop s c₀ links₀ params₀ c links params = length s - c .at .0
+
+start-requires : tie.Need-start-requires Inv-loop μ-loop
+start-requires c κs = search needs
+
+loop-holds : tie.Need-loop-holds Inv-loop μ-loop
+loop-holds c = start (c .start .ensures)
+
+past-blanks-requires : tie.Need-past-blanks-requires Inv-loop μ-loop
+past-blanks-requires c κs = (c .loop .inv .stands .inside)
+
+returns : tie.Need-returns Inv-loop μ-loop
+returns c = ended (c .before .before .before .loop .inv) (c .before .before .past-blanks .ensures) (c .if1 .taken)
+
+sees-requires : tie.Need-sees-requires Inv-loop μ-loop
+sees-requires c κs = search needs
+
+past-octet-requires : tie.Need-past-octet-requires Inv-loop μ-loop
+past-octet-requires c κs = ((c .before .sees .ensures .yes) (c .if2 .taken)) .inside
+
+loop-less : tie.Need-loop-less Inv-loop μ-loop
+loop-less c = omega (arith, (c .past-octet .ensures), (c .before .before .before .before .before .past-blanks .ensures .forward), (c .before .before .before .if1 .left))
+
+loop-again : tie.Need-loop-again Inv-loop μ-loop
+loop-again c = comma (c .before .before .before .before .before .before .loop .inv) (c .before .before .before .before .before .past-blanks .ensures) ((c .before .before .sees .ensures .yes) (c .before .if2 .taken)) (c .past-octet .ensures)
+
+sees-requires-2 : tie.Need-sees-requires-2 Inv-loop μ-loop
+sees-requires-2 c κs = search needs
+
+returns-2 : tie.Need-returns-2 Inv-loop μ-loop
+returns-2 c = no-start (c .before .before .before .before .before .before .before .loop .inv) (c .before .before .before .before .before .before .past-blanks .ensures) (c .before .before .before .before .if1 .left) (c .before .before .before .sees .ensures) (c .before .before .if2 .left) (c .before .sees2 .ensures) (c .if3 .taken)
+
+past-octet-requires-2 : tie.Need-past-octet-requires-2 Inv-loop μ-loop
+past-octet-requires-2 c κs = search needs
+
+past-link-requires : tie.Need-past-link-requires Inv-loop μ-loop
+past-link-requires c κs = omega (arith, (c .past-octet2 .ensures), (c .before .before .before .before .before .if1 .left))
+
+enum-known-p : tie.Need-enum-known-p Inv-loop μ-loop
+enum-known-p c = search needs
+
+returns-3 : tie.Need-returns-3 Inv-loop μ-loop
+returns-3 c =
+    link-stuck (c .before .before .before .before .before .before .before .before .before .before .before .before .loop .inv) (c .before .before .before .before .before .before .before .before .before .before .before .past-blanks .ensures) ((c .before .before .before .before .before .before .sees2 .ensures .yes) (not-false (c .before .before .before .before .before .before .sees2 .result) (c .before .before .before .before .before .if3 .left))) (c .before .before .before .before .past-octet2 .ensures)
+    (c .before .before .before .past-link .ensures) (c .before .p .given .1)
+
+enum-known-d : tie.Need-enum-known-d Inv-loop μ-loop
+enum-known-d c = search needs
+
+add-links : tie.Need-add-links Inv-loop μ-loop
+add-links c = omega (arith, (c .before .before .before .before .before .before .before .before .before .before .before .before .loop .inv .few-links), (c .before .before .before .before .before .before .before .before .before .before .before .before .loop .inv .stands .inside), (c .before .before .before .before .before .before .before .before .before .before .before .past-blanks .ensures .forward), (c .before .before .before .before .before .before .before .before .before .if1 .left), (c .before .before .before .before .before .before .before .before .before .before .before .before .before .before .before .good .0 .0))
+
+add-params : tie.Need-add-params Inv-loop μ-loop
+add-params c =
+    omega
+    (arith, (c .before .before .before .before .before .before .before .before .before .before .before .before .loop .inv .few-params), (c .before .before .before .before .before .before .before .before .before .before .before .past-blanks .ensures .forward), (c .before .before .before .before .past-octet2 .ensures),
+    whole-forward (c .before .before .before .past-link .ensures) (c .before .d .given .1) .0, whole-forward (c .before .before .before .past-link .ensures) (c .before .d .given .1) .1, (c .before .before .before .before .before .before .before .before .before .before .before .before .before .before .before .good .0 .0))
+
+returns-4 : tie.Need-returns-4 Inv-loop μ-loop
+returns-4 c =
+    link-ended (c .before .before .before .before .before .before .before .before .before .before .before .before .before .before .loop .inv) (c .before .before .before .before .before .before .before .before .before .before .before .before .before .past-blanks .ensures) ((c .before .before .before .before .before .before .before .before .sees2 .ensures .yes) (not-false (c .before .before .before .before .before .before .before .before .sees2 .result) (c .before .before .before .before .before .before .before .if3 .left))) (c .before .before .before .before .before .before .past-octet2 .ensures)
+    (c .before .before .before .before .before .past-link .ensures) (c .before .before .before .d .given .1) (c .if4 .taken)
+
+past-octet-requires-3 : tie.Need-past-octet-requires-3 Inv-loop μ-loop
+past-octet-requires-3 c κs = search needs
+
+loop-less-2 : tie.Need-loop-less-2 Inv-loop μ-loop
+loop-less-2 c =
+    omega
+    (arith, (c .past-octet3 .ensures), (c .before .before .before .before .before .before .before .before .before .before .before .before .before .before .past-blanks .ensures .forward), (c .before .before .before .before .before .before .before .past-octet2 .ensures),
+    whole-forward (c .before .before .before .before .before .before .past-link .ensures) (c .before .before .before .before .d .given .1) .0, (c .before .if4 .left))
+
+loop-again-2 : tie.Need-loop-again-2 Inv-loop μ-loop
+loop-again-2 c =
+    link-comma (c .before .before .before .before .before .before .before .before .before .before .before .before .before .before .before .loop .inv) (c .before .before .before .before .before .before .before .before .before .before .before .before .before .before .past-blanks .ensures) ((c .before .before .before .before .before .before .before .before .before .sees2 .ensures .yes) (not-false (c .before .before .before .before .before .before .before .before .before .sees2 .result) (c .before .before .before .before .before .before .before .before .if3 .left))) (c .before .before .before .before .before .before .before .past-octet2 .ensures)
+    (c .before .before .before .before .before .before .past-link .ensures) (c .before .before .before .before .d .given .1) (c .before .if4 .left) (c .past-octet3 .ensures)
+
+pub scan-spec : {M : Type 1} → statement M
+scan-spec =
+    tie.close
+    (tie.spec
+    Inv-loop
+    μ-loop
+    start-requires
+    loop-holds
+    past-blanks-requires
+    returns
+    sees-requires
+    past-octet-requires
+    loop-less
+    loop-again
+    sees-requires-2
+    returns-2
+    past-octet-requires-2
+    past-link-requires
+    enum-known-p
+    returns-3
+    enum-known-d
+    add-links
+    add-params
+    returns-4
+    past-octet-requires-3
+    loop-less-2
+    loop-again-2)

@@ -1,0 +1,66 @@
+// A link, behind its `<`.
+ghost use mathlib.Core.Path.{_≡_};
+ghost use mathlib.Core.Bool.{cond};
+ghost use Prim.Native.Nat.{_+_, _^_, _≤_, _<_};
+ghost use lib.ListN.{length};
+ghost use Rattle.scanner.specs.Linked.{ParamsScanned, LinkScanned};
+
+use crate::{LinkScan, ParamScan, Scan};
+use cursor::Cursor;
+use kinds::Place;
+use names::Seen;
+
+// One more is kept, unless its name stood before.
+fn counted(kept: usize, again: bool) -> usize
+    requires { ⌜ kept + 1 < 2 ^ 64 ⌝ }
+    ensures { λ r. ⌜ r ≡ kept + cond again 0 1 ⌝ }
+{
+    if again {
+        return kept;
+    }
+    kept + 1
+}
+
+// The parameters behind a link's `>`, up to a comma or the end.
+pub fn past_params(s: &[u8], from: Cursor) -> LinkScan
+    requires { ⌜ from .at .0 ≤ length (now s) ⌝ }
+    ensures { λ r. ⌜ ParamsScanned (now (s .entry)) (from .at .0) r ⌝ }
+{
+    let mut c = from;
+    let mut kept: usize = 0;
+    let mut seen = Seen::none();
+    loop {
+        let i = c.past_blanks(s);
+        if i.at.0 >= s.len() {
+            return LinkScan::Whole(i, kept);
+        }
+        if i.sees(s, b',') {
+            return LinkScan::Whole(i, kept);
+        }
+        if !i.sees(s, b';') {
+            return LinkScan::NoLink(Place(i.at.0));
+        }
+        match crate::past_param(s, i.past_octet(s).past_blanks(s)) {
+            ParamScan::NoParam(p) => {
+                return LinkScan::NoLink(p);
+            }
+            ParamScan::Param(r, d) => {
+                let code = names::code(s, r.name.from.0, r.name.to.0);
+                kept = counted(kept, seen.has(code));
+                seen = seen.with(code);
+                c = d;
+            }
+        }
+    }
+}
+
+// A link, from its target on.
+pub fn past_link(s: &[u8], from: Cursor) -> LinkScan
+    requires { ⌜ from .at .0 ≤ length (now s) ⌝ }
+    ensures { λ r. ⌜ LinkScanned (now (s .entry)) (from .at .0) r ⌝ }
+{
+    match crate::past_target(s, from) {
+        Scan::Stuck(p) => LinkScan::NoLink(p),
+        Scan::Past(c) => past_params(s, c.past_octet(s)),
+    }
+}

@@ -1,0 +1,3 @@
+-- What the crate `values` means by its words.
+pub mod Rest
+pub mod Runs
