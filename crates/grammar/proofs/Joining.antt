@@ -122,7 +122,7 @@ param-count-raised : (k : ℕ) (ls : List Link) → countParams (map (raiseLink 
 param-count-raised k [] = refl
 param-count-raised k (l ∷ ls) = rw (length-map (l .params) (raiseParam k), param-count-raised k ls)
 
-link-records-append : (n : ℕ) (ls ms : List Link)
+pub link-records-append : (n : ℕ) (ls ms : List Link)
     → linkRecords n (ls ++ ms) ≡ linkRecords n ls ++ linkRecords (n + countParams ls) ms
 link-records-append n [] ms = ap (λ (x : ℕ). linkRecords x ms) (sym (add-zero n))
 link-records-append n (l ∷ ls) ms =
@@ -130,13 +130,13 @@ link-records-append n (l ∷ ls) ms =
     (ap (λ (x : List ℕ). l .targetFrom ∷ l .targetTo ∷ n ∷ length (l .params) ∷ x)
     (link-records-append (n + length (l .params)) ls ms))
 
-param-records-append : (ls ms : List Link) → paramRecords (ls ++ ms) ≡ paramRecords ls ++ paramRecords ms
+pub param-records-append : (ls ms : List Link) → paramRecords (ls ++ ms) ≡ paramRecords ls ++ paramRecords ms
 param-records-append [] ms = refl
 param-records-append (l ∷ ls) ms =
     ap (λ (x : List ℕ). recordsOf (l .params) ++ x) (param-records-append ls ms)
     ∙ sym (append-assoc (recordsOf (l .params)) (paramRecords ls) (paramRecords ms))
 
-param-count-append : (ls ms : List Link) → countParams (ls ++ ms) ≡ countParams ls + countParams ms
+pub param-count-append : (ls ms : List Link) → countParams (ls ++ ms) ≡ countParams ls + countParams ms
 param-count-append [] ms = sym (zero-add (countParams ms))
 param-count-append (l ∷ ls) ms = rw (param-count-append ls ms) (sym (add-assoc (length (l .params)) (countParams ls) (countParams ms)))
 

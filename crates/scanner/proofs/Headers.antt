@@ -28,7 +28,7 @@ use Rattle.scanner.proofs.Standing.{stands-start, stands-on, stands-run
 use Rattle.scanner.proofs.Links.{linkOf, link-ready, link-forward, ready-comma}
 
 -- the order of links doesn't change the count of their parameters
-count-reverse : (ls ms : List Link) → countParams (reverseAux ls ms) ≡ countParams ls + countParams ms
+pub count-reverse : (ls ms : List Link) → countParams (reverseAux ls ms) ≡ countParams ls + countParams ms
 count-reverse [] ms = sym (zero-add (countParams ms))
 count-reverse (l ∷ ls) ms = count-reverse ls (l ∷ ms) ∙ omega arith
 

@@ -52,7 +52,7 @@ use Rattle.scanner.proofs.Params.{parsed-ready, ready-after}
 -- ---- what is kept
 
 -- keeping a list in two parts
-keep-append : (s : List ℕ) (e : List (List ℕ)) (xs ys : List Param)
+pub keep-append : (s : List ℕ) (e : List (List ℕ)) (xs ys : List Param)
     → keepAfter s e (xs ++ ys) ≡ keepAfter s e xs ++ keepAfter s (reverseAux (map (nameOf s) xs) e) ys
 keep-append s e [] ys = refl
 keep-append s e (x ∷ xs) ys =
@@ -66,7 +66,7 @@ keep-append s e (x ∷ xs) ys =
     go false us vs = refl
 
 -- one parameter more, told by those before it, the last first
-keep-more : (s : List ℕ) (p : Param) (qs : List Param)
+pub keep-more : (s : List ℕ) (p : Param) (qs : List Param)
     → keepAfter s [] (reverse (p ∷ qs))
     ≡ keepAfter s [] (reverse qs) ++ unless (isOnce (nameOf s p) && among (map (nameOf s) qs) (nameOf s p)) p []
 keep-more s p qs =
@@ -75,7 +75,7 @@ keep-more s p qs =
     (λ (e : List (List ℕ)). keepAfter s [] (reverse qs) ++ unless (isOnce (nameOf s p) && among e (nameOf s p)) p [])
     (map-reverseAux (nameOf s) (reverse qs) [] ∙ ap (map (nameOf s)) (reverse-reverse qs))
 
-kept-more : (s : List ℕ) (p : Param) (qs : List Param) {n m : ℕ} {b : Bool} → n ≡ length (keepAfter s [] (reverse qs))
+pub kept-more : (s : List ℕ) (p : Param) (qs : List Param) {n m : ℕ} {b : Bool} → n ≡ length (keepAfter s [] (reverse qs))
     → b ≡ (isOnce (nameOf s p) && among (map (nameOf s) qs) (nameOf s p)) → m ≡ n + cond b 0 1
     → m ≡ length (keepAfter s [] (reverse (p ∷ qs)))
 kept-more s p qs {n} {m} {b} e f g =
@@ -111,12 +111,14 @@ settled-alive st i ls e = go (isDead st) refl
         absurd (omega arith)
 
 -- how far a link's parameters have been passed, from place a: to i, with n of them kept
-pub record Going (s : List ℕ) (a i n : ℕ) (x : Seen) : Type 0 where
-  pub params : List Param
+pub record Along (s : List ℕ) (a i n : ℕ) (x : Seen) (params : List Param) : Type 0 where
   pub chain : Chain s a params i
   pub inside : i ≤ length s
   pub kept : n ≡ length (keepAfter s [] (reverse params))
   pub seen : Holds x (map (nameOf s) params)
+
+abbrev pub Going : List ℕ → ℕ → ℕ → ℕ → Seen → Type 0
+Going s a i n x = (params : List Param) × Along s a i n x params
 
 module _ {s : List ℕ} where
   -- ---- how far a parameter goes
@@ -134,7 +136,7 @@ module _ {s : List ℕ} where
   parsed-name (without h t b q) = (t .forward, t .inside)
   parsed-name (with h t b q w v) = (t .forward, t .inside)
 
-  chain-forward : {a e : ℕ} {qs : List Param} → Chain s a qs e → length qs + a ≤ e
+  pub chain-forward : {a e : ℕ} {qs : List Param} → Chain s a qs e → length qs + a ≤ e
   chain-forward no-params = omega arith
   chain-forward (one-more c b q w p) =
       omega (arith, chain-forward c, b .forward, w .forward, parsed-forward p .0)
@@ -150,13 +152,13 @@ module _ {s : List ℕ} where
 
   -- ---- where the machine stands behind parameters
 
-  ready-blanks : {o : Open} {i j : ℕ} → Ready s o i → Run s isBlank i j → Ready s o j
+  pub ready-blanks : {o : Open} {i j : ℕ} → Ready s o i → Run s isBlank i j → Ready s o j
   ready-blanks r run-end = r
   ready-blanks {o} r (run-more b t) =
       ready-after
       (stands-run (λ i c q. rw q) t (stands-on (after o) (r .stands) (b .inside) (r .steps (b .inside) ∙ rw (b .is))))
 
-  ready-semi : {o : Open} {j : ℕ} → Ready s o j → At s j 59 → Stands s (semi o) (suc j)
+  pub ready-semi : {o : Open} {j : ℕ} → Ready s o j → At s j 59 → Stands s (semi o) (suc j)
   unfolding isBlank
   ready-semi {o} r q = stands-on (semi o) (r .stands) (q .inside) (r .steps (q .inside) ∙ rw (q .is))
 
@@ -169,7 +171,7 @@ module _ {s : List ℕ} where
   ready-halts {o} {j} r h b x y =
       halts-at (r .stands) (settled-alive (r .state) j (close o) (r .settles)) h (r .steps h ∙ rw (b, x, y))
 
-  chain-ready : {a i : ℕ} {qs : List Param} (ls : List Link) (b k : ℕ) → Chain s a qs i → Ready s (opened ls b k) a
+  pub chain-ready : {a i : ℕ} {qs : List Param} (ls : List Link) (b k : ℕ) → Chain s a qs i → Ready s (opened ls b k) a
       → Ready s (holding ls b k qs) i
   chain-ready ls b k no-params r = r
   chain-ready ls b k (one-more {qs = qs} c w q v p) r =
@@ -178,32 +180,30 @@ module _ {s : List ℕ} where
 
   -- ---- what the code's returns say of parameters
 
-  pub begin : {a : ℕ} {x : Seen} → a ≤ length s → x ≡ noneSeen → Going s a a 0 x
-  begin h e = record { params = []; chain = no-params; inside = h; kept = refl; seen = nothing-seen e }
+  pub begin : {a : ℕ} {x : Seen} → a ≤ length s → x ≡ noneSeen → Along s a a 0 x []
+  begin h e = record { chain = no-params; inside = h; kept = refl; seen = nothing-seen e }
 
   -- n parameters take as many octets at least
-  pub going-forward : {a i n : ℕ} {x : Seen} → Going s a i n x → n + a ≤ i
-  going-forward g =
-      omega
-      (arith, g .kept, keep-fewer s [] (reverse (g .params)), length-reverse (g .params), chain-forward (g .chain))
+  pub going-forward : {a i n : ℕ} {x : Seen} {qs : List Param} → Along s a i n x qs → n + a ≤ i
+  going-forward {qs = qs} g =
+      omega (arith, g .kept, keep-fewer s [] (reverse qs), length-reverse qs, chain-forward (g .chain))
 
-  pub on : {a i j k e n m c : ℕ} {x y : Seen} {b : Bool} {r : ParamRecord} {d : Cursor} {u : ParamScan} → Going s a i n x
-      → Passed isBlank s i j → At s j 59 → k ≡ j + 1 → Passed isBlank s k e → ParamScanned s e u → u ≡ AParam r d
+  pub on : {a i j k e n m c : ℕ} {x y : Seen} {b : Bool} {r : ParamRecord} {d : Cursor} {u : ParamScan} {qs : List Param}
+      → Along s a i n x qs → Passed isBlank s i j → At s j 59 → k ≡ j + 1 → Passed isBlank s k e → ParamScanned s e u → u ≡ AParam r d
       → c ≡ codeOf (folded (slice (r .name .from .0) (r .name .to .0) s)) → b ≡ hasCode x c → m ≡ n + cond b 0 1
-      → y ≡ withCode x c → Going s a (d .at .0) m y
+      → y ≡ withCode x c → Along s a (d .at .0) m y (toParam r ∷ qs)
   unfolding nameOf
-  on {a} {j = j} {e = e} {n = n} {m = m} {x = x} {y = y} {b = b} {r = r} {d = d} g w q l v u z c h f o =
+  on {a} {j = j} {e = e} {n = n} {m = m} {x = x} {y = y} {b = b} {r = r} {d = d} {qs = qs} g w q l v u z c h f o =
       go (subst (ParamScanned s e) z u)
     where
-      told : b ≡ (isOnce (nameOf s (toParam r)) && among (map (nameOf s) (g .params)) (nameOf s (toParam r)))
+      told : b ≡ (isOnce (nameOf s (toParam r)) && among (map (nameOf s) qs) (nameOf s (toParam r)))
       told = has-told (g .seen) (nameOf s (toParam r)) c h
-      go : ParamScanned s e (AParam r d) → Going s a (d .at .0) m y
+      go : ParamScanned s e (AParam r d) → Along s a (d .at .0) m y (toParam r ∷ qs)
       go (a-param p) =
           record {
-            params = toParam r ∷ g .params;
             chain = one-more (g .chain) w q (subst (λ (t : ℕ). Passed isBlank s t e) (l ∙ add-one j) v) p;
             inside = parsed-forward p .1;
-            kept = kept-more s (toParam r) (g .params) (g .kept) told f;
+            kept = kept-more s (toParam r) qs (g .kept) told f;
             seen = seen-with (g .seen) (nameOf s (toParam r)) c o
           }
 
@@ -220,14 +220,14 @@ module _ {s : List ℕ} where
       → (length s ≤ c .at .0) ⊎ At s (c .at .0) 44 → ParamsScanned s a (Whole c n)
   params-ended g b e =
       all-params
-      (record { params = g .params; end = _; chain = g .chain; blanks = b; ends = e; kept = g .kept })
+      (record { params = g .0; end = _; chain = g .1 .chain; blanks = b; ends = e; kept = g .1 .kept })
 
   pub neither : {a i j n : ℕ} {x : Seen} {p q : Bool} → Going s a i n x → Passed isBlank s i j → j < length s → Looked s j 44 p
       → p ≡ false → Looked s j 59 q → not q ≡ true → ParamsScanned s a (NoLink (record { 0 = j }))
   neither {q = q} g b h l e k f =
       no-params-here
       (λ ls c d r.
-        ready-halts (ready-blanks (chain-ready ls c d (g .chain) r) (b .run)) h (b .stops h) (k .not (not-true q f) h)
+        ready-halts (ready-blanks (chain-ready ls c d (g .1 .chain) r) (b .run)) h (b .stops h) (k .not (not-true q f) h)
         (l .not e h))
 
   pub param-stuck : {a i j k e n : ℕ} {x : Seen} {p : Place} {u : ParamScan} → Going s a i n x → Passed isBlank s i j → At s j 59
@@ -238,14 +238,14 @@ module _ {s : List ℕ} where
       go (no-param f) =
           no-params-here
           (λ ls c d r.
-            f (holding ls c d (g .params))
+            f (holding ls c d (g .0))
             (stands-run (λ i x y. rw y) (v .run)
-            (subst (Stands s (semi (holding ls c d (g .params)))) (sym (l ∙ add-one j))
-            (ready-semi (ready-blanks (chain-ready ls c d (g .chain) r) (w .run)) q))))
+            (subst (Stands s (semi (holding ls c d (g .0)))) (sym (l ∙ add-one j))
+            (ready-semi (ready-blanks (chain-ready ls c d (g .1 .chain) r) (w .run)) q))))
 
   -- ---- a link
 
-  after-close : {a k : ℕ} (ls : List Link) → Target s a k → At s k 62 → Stands s (target ls a) a
+  pub after-close : {a k : ℕ} (ls : List Link) → Target s a k → At s k 62 → Stands s (target ls a) a
       → Stands s (after (opened ls a k)) (suc k)
   unfolding isTarget
   after-close {a} {k} ls t q p =

@@ -1,0 +1,6 @@
+-- Laws of filling.
+pub mod Total
+pub mod Filling
+pub mod OfLinks
+pub mod Whole
+pub mod Answers

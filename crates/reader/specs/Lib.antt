@@ -1,0 +1,3 @@
+-- What the reader answers, and what its functions promise one another.
+pub mod Answer
+pub mod Filling

@@ -1,0 +1,109 @@
+// The second pass: fills in the records of a header that has a reading, in tables that have room for it.
+ghost use mathlib.Core.Path.{_≡_};
+ghost use mathlib.Core.Bool.{cond, false};
+ghost use mathlib.Core.List.{_++_};
+ghost use Prim.Native.Nat.{_+_, _*_, _≤_};
+ghost use lib.ListN.{length, drop};
+ghost use Rattle.kinds.specs.Slots.{over, paramNumbers};
+ghost use Rattle.reader.specs.Filling.{Fits, BeforeParams, ParamsFilled, BeforeLink, LinkFilled, Filled};
+
+use cursor::Cursor;
+use kinds::{LinkNumber, LinkRecord, ParamNumber, ParamRecord, Place, Span};
+use names::Seen;
+use scanner::{ParamScan, Scan};
+
+// The cursor behind a link's parameters, and the number of the next parameter.
+pub struct Next {
+    pub at: Cursor,
+    pub next: usize,
+}
+
+// Writes the record at number m, unless its name stood before, and answers the next number.
+fn keep(params: &mut [usize], m: usize, r: ParamRecord, again: bool) -> usize
+    requires { ⌜ (again ≡ false → 5 * m + 5 ≤ length (now params)) ⌝ }
+    ensures { λ n. ⌜ (n ≡ m + cond again 0 1) × (now (params .exit) ≡ cond again (now (params .entry)) (over (now (params .entry)) (5 * m) (paramNumbers r))) ⌝ }
+{
+    if again {
+        return m;
+    }
+    kinds::put_param(params, ParamNumber(m), r);
+    m + 1
+}
+
+// Writes the records of a link's kept parameters, from number m on.
+fn fill_params(s: &[u8], from: Cursor, params: &mut [usize], m: usize) -> Next
+    requires { ⌜ BeforeParams (now s) (now params) (from .at .0) m ⌝ }
+    ensures { λ r. ⌜ ParamsFilled (now (s .entry)) (from .at .0) (r .at .at .0) m (r .next) (now (params .entry)) (now (params .exit)) ⌝ }
+{
+    let mut c = from;
+    let mut n = m;
+    let mut seen = Seen::none();
+    loop {
+        let i = c.past_blanks(s);
+        if !i.sees(s, b';') {
+            return Next { at: i, next: n };
+        }
+        match scanner::past_param(s, i.past_octet(s).past_blanks(s)) {
+            ParamScan::NoParam(_p) => {
+                return Next { at: i, next: n };
+            }
+            ParamScan::Param(r, d) => {
+                let code = names::code(s, r.name.from.0, r.name.to.0);
+                n = keep(params, n, r, seen.has(code));
+                seen = seen.with(code);
+                c = d;
+            }
+        }
+    }
+}
+
+// Writes the records of a link, behind its `<`, and of its kept parameters.
+fn fill_link(s: &[u8], from: Cursor, links: &mut [usize], n: usize, params: &mut [usize], m: usize) -> Next
+    requires { ⌜ BeforeLink (now s) (now links) (now params) (from .at .0) n m ⌝ }
+    ensures { λ r. ⌜ LinkFilled (now (s .entry)) (from .at .0) (r .at .at .0) n m (r .next) (now (links .entry)) (now (links .exit)) (now (params .entry)) (now (params .exit)) ⌝ }
+{
+    match scanner::past_target(s, from) {
+        Scan::Stuck(_p) => Next { at: from, next: m },
+        Scan::Past(t) => {
+            let f = fill_params(s, t.past_octet(s), params, m);
+            let r = LinkRecord {
+                target: Span {
+                    from: Place(from.at.0),
+                    to: Place(t.at.0),
+                },
+                first: ParamNumber(m),
+                count: f.next - m,
+            };
+            kinds::put_link(links, LinkNumber(n), r);
+            f
+        }
+    }
+}
+
+// Writes the records of all links. Between two of them stand blanks and commas alone.
+pub fn fill(s: &[u8], links: &mut [usize], params: &mut [usize])
+    requires { ⌜ Fits (now s) (now links) (now params) ⌝ }
+    ensures { λ _. ⌜ Filled (now (s .entry)) (now (links .entry)) (now (links .exit)) (now (params .entry)) (now (params .exit)) ⌝ }
+{
+    let mut c = Cursor::start();
+    let mut n: usize = 0;
+    let mut m: usize = 0;
+    loop {
+        let i = c.past_blanks(s);
+        if i.at.0 >= s.len() {
+            return;
+        }
+        if i.sees(s, b',') {
+            c = i.past_octet(s);
+            continue;
+        }
+        let f = fill_link(s, i.past_octet(s), links, n, params, m);
+        n += 1;
+        m = f.next;
+        let at = f.at;
+        if at.at.0 >= s.len() {
+            return;
+        }
+        c = at.past_octet(s);
+    }
+}

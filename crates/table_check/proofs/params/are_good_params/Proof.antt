@@ -1,0 +1,91 @@
+-- The loop passes the parameters: those that are left, behind the names that have been seen, tell what all of them are.
+use Prim.Native.Nat.{_-_}
+use native.Mathlib.Omega.{arith}
+use borrow.Author.Needs.{needs}
+use borrow.Author.Tests.{not-true, not-false}
+use Rattle.grammar.specs.Kept.{nameOf}
+use Rattle.table_check.proofs.OfParams.{Checked, begin, bad-param, repeated, passed, through}
+use Rattle.table_check.proofs.params.are_good_params.Statement.{statement}
+use Rattle.table_check.proofs.params.are_good_params.Tie as tie
+
+abbrev Inv-loop : tie.InvT-loop
+Inv-loop s slots first count seen₀ k₀ seen k = Checked s slots (first .0) count seen k
+
+abbrev μ-loop : tie.MeasureT-loop
+μ-loop s slots first count seen₀ k₀ seen k = count - k
+
+none-requires : tie.Need-none-requires Inv-loop μ-loop
+none-requires c κs = search needs
+
+loop-holds : tie.Need-loop-holds Inv-loop μ-loop
+loop-holds c = begin (c .none .ensures)
+
+add-t10 : tie.Need-add-t10 Inv-loop μ-loop
+add-t10 c = omega arith
+
+param-at-requires : tie.Need-param-at-requires Inv-loop μ-loop
+param-at-requires c κs = omega arith
+
+is-good-param-requires : tie.Need-is-good-param-requires Inv-loop μ-loop
+is-good-param-requires c κs = search needs
+
+returns : tie.Need-returns Inv-loop μ-loop
+returns c =
+    bad-param (c .before .before .before .before .before .loop .inv) (c .before .before .before .before .loop-test .taken)
+    (c .before .before .param-at .ensures) (c .before .is-good-param .ensures .fails (not-true _ (c .if1 .taken)))
+
+code-requires : tie.Need-code-requires Inv-loop μ-loop
+code-requires c κs =
+    let h = c .before .is-good-param .ensures .holds (not-false _ (c .if1 .left)) .name-span in (h .ordered, h .inside)
+
+has-requires : tie.Need-has-requires Inv-loop μ-loop
+has-requires c κs = search needs
+
+returns-2 : tie.Need-returns-2 Inv-loop μ-loop
+unfolding nameOf
+returns-2 c =
+    let b = c .before .before .before .before .before in
+    repeated (b .before .before .before .loop .inv) (b .before .before .loop-test .taken) (b .param-at .ensures)
+    (c .before .before .code .ensures) (c .before .has .ensures) (c .if2 .taken)
+
+with-requires : tie.Need-with-requires Inv-loop μ-loop
+with-requires c κs = search needs
+
+add-k : tie.Need-add-k Inv-loop μ-loop
+add-k c = omega arith
+
+loop-less : tie.Need-loop-less Inv-loop μ-loop
+loop-less c = omega arith
+
+loop-again : tie.Need-loop-again Inv-loop μ-loop
+unfolding nameOf
+loop-again c =
+    let d = c .before .before .before .before in
+    let b = d .before .before in
+    passed (b .before .before .before .loop .inv) (b .before .before .loop-test .taken) (b .param-at .ensures)
+    (c .before .before .before .code .ensures) (c .before .before .has .ensures) (c .before .if2 .left)
+    (d .before .is-good-param .ensures .holds (not-false _ (d .if1 .left))) (c .with .ensures)
+
+returns-3 : tie.Need-returns-3 Inv-loop μ-loop
+returns-3 c = through (c .before .loop .inv) (c .loop-test .left)
+
+pub are-good-params-spec : {M : Type 1} → statement M
+are-good-params-spec =
+    tie.close
+    (tie.spec
+    Inv-loop
+    μ-loop
+    none-requires
+    loop-holds
+    add-t10
+    param-at-requires
+    is-good-param-requires
+    returns
+    code-requires
+    has-requires
+    returns-2
+    with-requires
+    add-k
+    loop-less
+    loop-again
+    returns-3)

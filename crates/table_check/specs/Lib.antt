@@ -1,0 +1,3 @@
+-- What the crate `table_check` means by its words.
+pub mod Decides
+pub mod Parts
