@@ -111,5 +111,5 @@ keeps =
       title = refl;
       title* = refl;
       type = refl;
-      hreflang = refl;
+      hreflang = refl; only = λ n. refl;
     }

@@ -2,7 +2,7 @@
 use Prim.Native.Nat.{ℕ}
 use mathlib.Core.Path.{_≡_}
 use mathlib.Core.Logic.{_⊎_}
-use mathlib.Core.Bool.{true, false}
+use mathlib.Core.Bool.{true, false, _||_}
 use mathlib.Core.List.{List, [], _∷_}
 use lib.ListN.{length}
 use Rattle.octets.specs.Sets.{all, isOctet}
@@ -51,6 +51,12 @@ pub record Keeps : Type 0 where
   pub title* : isOnce (octets "title*") ≡ true
   pub type : isOnce (octets "type") ≡ true
   pub hreflang : isOnce (octets "hreflang") ≡ false
+  pub only : (n : List ℕ)
+      → isOnce n
+      ≡ (same n (octets "rel")
+      || (same n (octets "anchor")
+      || (same n (octets "media")
+      || (same n (octets "title") || (same n (octets "title*") || (same n (octets "type") || false))))))
 
 -- a header cut short, which some derivable header begins with, has its own length as place
 abbrev pub CutShort : Type 0

@@ -85,8 +85,8 @@ regood {h} {L} {L′} {P} {P′} {n} {n′} {m} {m′} l p c d g =
     (subst₂ (λ (x y : ℕ). Good (record { text = h; linkSlots = L; paramSlots = P; linkCount = x; paramCount = y })) c d g)
 
 -- what is known once the records are those of a reading
-record Known (h ls ps : List ℕ) : Type 0 where
-  fills : (L P : List ℕ) → length ls / 4 ≤ linkRoom L → length ps / 5 ≤ paramRoom P
+pub record Known (h ls ps : List ℕ) : Type 0 where
+  pub fills : (L P : List ℕ) → length ls / 4 ≤ linkRoom L → length ps / 5 ≤ paramRoom P
       → Read h L P
       (record {
         number = done;
@@ -96,7 +96,7 @@ record Known (h ls ps : List ℕ) : Type 0 where
         linkSlots = ls ++ drop (length ls) L;
         paramSlots = ps ++ drop (length ps) P;
       })
-  usable : Usable (tableOf h ls ps)
+  pub usable : Usable (tableOf h ls ps)
 
 known : (h : List ℕ) → length h ≤ limit → (K : List Link) → Reading rfc8288 h K → Known h (linkRecords 0 K) (paramRecords K)
 known h short K r =
@@ -113,7 +113,7 @@ known h short K r =
           };
     }
 
-recorded-known : (h ls ps : List ℕ) → length h ≤ limit → recorded h ls ps (read h) ≡ true → Known h ls ps
+pub recorded-known : (h ls ps : List ℕ) → length h ≤ limit → recorded h ls ps (read h) ≡ true → Known h ls ps
 recorded-known h ls ps short e = go (read h) refl e
   where
     go : (x : Option (List Link)) → read h ≡ x → recorded h ls ps x ≡ true → Known h ls ps

@@ -41,6 +41,14 @@ slips =
           reads (1 ∷ 2 ∷ 0 ∷ 1 ∷ []) (4 ∷ 7 ∷ 9 ∷ 20 ∷ 2 ∷ []) (octets "next" ∷ octets "B\tC" ∷ [])
           (writes (octets "<a>; rel=\" NExt b\tc \""));
     }
+    -- links are written behind one another, and a link without `=` gets an empty value
+    ∷ record {
+      header = octets "<a>;rel=b;c , ,<d>;rel=e";
+      judgement =
+          reads (1 ∷ 2 ∷ 0 ∷ 2 ∷ 16 ∷ 17 ∷ 2 ∷ 1 ∷ [])
+          (4 ∷ 7 ∷ 8 ∷ 9 ∷ 1 ∷ 10 ∷ 11 ∷ 11 ∷ 11 ∷ 0 ∷ 19 ∷ 22 ∷ 23 ∷ 24 ∷ 1 ∷ []) (octets "b" ∷ [])
+          (writes (octets "<a>; rel=b; c=\"\", <d>; rel=e"))
+    }
     -- a later one of a kept name must still be well formed
     ∷ record { header = octets "<a>;rel=b;rel=;"; judgement = malformed 14 }
     ∷ []

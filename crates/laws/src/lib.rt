@@ -1,5 +1,5 @@
 // Laws over all the definitions, held by the gate: each function promises one statement of specs/ and does nothing.
-ghost use Rattle.laws.specs.Laws.{MarkedHold, SlipsHold, PremiseNeeded};
+ghost use Rattle.laws.specs.Laws.{MarkedHold, SlipsHold, LookupsHold, PremiseNeeded};
 ghost use Rattle.laws.specs.Answers.{JoinAnswers, JoinRefuses, BackAnswers, WrittenApart};
 
 // The twelve marked headers are as they were read by hand.
@@ -11,6 +11,12 @@ pub fn marked_hold()
 pub fn slips_hold()
     ensures { λ _. ⌜ SlipsHold ⌝ }
 {}
+
+// Contexts and copied values of two marked headers.
+pub fn lookups_hold()
+    ensures { λ _. ⌜ LookupsHold ⌝ }
+{
+}
 
 // Two malformed headers may join to one that is not.
 pub fn premise_needed()

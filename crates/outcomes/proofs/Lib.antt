@@ -7,3 +7,4 @@ pub mod SearchSettled
 pub mod ContextSettled
 pub mod CopySettled
 pub mod WriteSettled
+pub mod Refusing

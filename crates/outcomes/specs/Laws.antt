@@ -1,17 +1,40 @@
 -- Each outcome settles everything.
-use Prim.Native.Nat.{ℕ}
+use Prim.Native.Nat.{ℕ, _*_}
 use mathlib.Core.Path.{_≡_}
-use mathlib.Core.List.{List}
+use mathlib.Core.List.{List, []}
+use lib.ListN.{drop}
 use Rattle.tables.specs.Table.{Table}
-use Rattle.outcomes.specs.Read.{Read}
-use Rattle.outcomes.specs.Search.{Search}
-use Rattle.outcomes.specs.Context.{Context}
-use Rattle.outcomes.specs.Copy.{Copy}
+use Rattle.outcomes.specs.Number.{done, malformedHeader}
+use Rattle.outcomes.specs.Read.{ReadOut, Read}
+use Rattle.outcomes.specs.Search.{SearchOut, Search}
+use Rattle.outcomes.specs.Context.{ContextOut, handed, Context}
+use Rattle.outcomes.specs.Copy.{CopyOut, Copy}
 use Rattle.outcomes.specs.Write.{Write}
 
 -- there is an outcome, and no other
 abbrev pub Settled : {A : Type 0} → (A → Type 0) → Type 0
 Settled {A} Out = (o : A) × Out o × ((q : A) → Out q → q ≡ o)
+
+-- A refusal answers zero in every other number, except the place with number 2, and changes nothing lent; after success the place is
+-- 0, and slots and octets past those used keep what they held.
+pub record ReadKeeps (L P : List ℕ) (o : ReadOut) : Type 0 where
+  pub refused : (o .number ≡ done → ⊥)
+      → (o .links ≡ 0) × (o .params ≡ 0) × (o .linkSlots ≡ L) × (o .paramSlots ≡ P)
+  pub place : (o .number ≡ malformedHeader → ⊥) → o .place ≡ 0
+  pub behind-links : o .number ≡ done → drop (4 * o .links) (o .linkSlots) ≡ drop (4 * o .links) L
+  pub behind-params : o .number ≡ done → drop (5 * o .params) (o .paramSlots) ≡ drop (5 * o .params) P
+
+pub record CopyKeeps (out : List ℕ) (o : CopyOut) : Type 0 where
+  pub refused : (o .number ≡ done → ⊥) → (o .count ≡ 0) × (o .buffer ≡ out)
+  pub behind : o .number ≡ done → drop (o .count) (o .buffer) ≡ drop (o .count) out
+
+pub record Refusals : Type 0 where
+  pub read : (h L P : List ℕ) (o : ReadOut) → Read h L P o → ReadKeeps L P o
+  pub search : (t : Table) (q : List ℕ) (o : SearchOut) → Search t q o → (o .number ≡ done → ⊥) → o .link ≡ 0
+  pub context : (t : Table) (base : List ℕ) (i : ℕ) (o : ContextOut) → Context t base i o → (o .number ≡ done → ⊥)
+      → handed (t .text) base o ≡ []
+  pub copy : (t : Table) (i j : ℕ) (out : List ℕ) (o : CopyOut) → Copy t i j out o → CopyKeeps out o
+  pub write : (t : Table) (out : List ℕ) (o : CopyOut) → Write t out o → CopyKeeps out o
 
 abbrev pub ReadSettled : Type 0
 ReadSettled = (h L P : List ℕ) → Settled (Read h L P)

@@ -1,5 +1,11 @@
 // The laws of the outcomes, held by the gate: each function promises one statement of specs/Laws.antt and does nothing.
-ghost use Rattle.outcomes.specs.Laws.{ReadSettled, SearchSettled, ContextSettled, CopySettled, WriteSettled};
+ghost use Rattle.outcomes.specs.Laws.{Refusals, ReadSettled, SearchSettled, ContextSettled, CopySettled, WriteSettled};
+
+// A refusal answers zeros and changes nothing lent, and success keeps what stands behind.
+pub fn refusals()
+    ensures { λ _. ⌜ Refusals ⌝ }
+{
+}
 
 // Reading a header has one outcome.
 pub fn read_settled()

@@ -1,0 +1,126 @@
+//! 01's grammar, written down as a value.
+//!
+//! Two things hold of every rule here, and the other modules lean on them:
+//! each rule derives at least one text, and what stands under [`Rule::Any`]
+//! never derives the empty text.
+
+use crate::octet;
+use Rule::{Any, Either, Labelled, One, Seq};
+
+/// How a text may be derived.
+pub enum Rule {
+    /// One octet of a class.
+    One(fn(u8) -> bool),
+    /// All the parts, one after another.
+    Seq(&'static [&'static Rule]),
+    /// One of the parts.
+    Either(&'static [&'static Rule]),
+    /// The part, zero or more times.
+    Any(&'static Rule),
+    /// The rule itself, remembered under a label in the derivation.
+    Labelled(Label, &'static Rule),
+}
+
+/// The parts of a derivation that the records are made of.
+#[derive(Clone, Copy, Debug, PartialEq, Eq)]
+pub enum Label {
+    Link,
+    Target,
+    Parameter,
+    Name,
+    Token,
+    Quoted,
+}
+
+static NOTHING: Rule = Seq(&[]);
+static COMMA: Rule = One(|octet| octet == b',');
+static SEMICOLON: Rule = One(|octet| octet == b';');
+static EQUALS: Rule = One(|octet| octet == b'=');
+static QUOTE: Rule = One(|octet| octet == b'"');
+static BACKSLASH: Rule = One(|octet| octet == b'\\');
+static PERCENT: Rule = One(|octet| octet == b'%');
+static LESS: Rule = One(|octet| octet == b'<');
+static GREATER: Rule = One(|octet| octet == b'>');
+static HEX: Rule = One(octet::hex);
+static TOKEN_OCTET: Rule = One(octet::token);
+
+/// OWS and BWS.
+static BLANKS: Rule = Any(&One(octet::blank));
+
+/// Field: blanks at both ends don't count; between them a comma list.
+pub static FIELD: Rule = Seq(&[&BLANKS, &LIST, &BLANKS]);
+
+/// RFC 9110 section 5.6.1: `[ element ] *( OWS "," OWS [ element ] )`.
+static LIST: Rule = Seq(&[&PLACE, &Any(&Seq(&[&BLANKS, &COMMA, &BLANKS, &PLACE]))]);
+
+/// A place of the list: empty or one link.
+static PLACE: Rule = Either(&[&LINK, &NOTHING]);
+
+static LINK: Rule = Labelled(
+    Label::Link,
+    &Seq(&[
+        &LESS,
+        &Labelled(Label::Target, &TARGET),
+        &GREATER,
+        &Any(&Seq(&[&BLANKS, &SEMICOLON, &BLANKS, &PARAMETER])),
+    ]),
+);
+
+static PARAMETER: Rule = Labelled(
+    Label::Parameter,
+    &Seq(&[
+        &Labelled(Label::Name, &TOKEN),
+        &BLANKS,
+        &Either(&[&Seq(&[&EQUALS, &BLANKS, &VALUE]), &NOTHING]),
+    ]),
+);
+
+static VALUE: Rule = Either(&[
+    &Labelled(Label::Token, &TOKEN),
+    &Seq(&[&QUOTE, &Labelled(Label::Quoted, &QUOTED), &QUOTE]),
+]);
+
+/// Token, and name.
+pub static TOKEN: Rule = Seq(&[&TOKEN_OCTET, &Any(&TOKEN_OCTET)]);
+
+/// What stands between the quotes of a quoted string.
+pub static QUOTED: Rule = Any(&Either(&[
+    &One(octet::plain),
+    &Seq(&[&BACKSLASH, &One(octet::escaped)]),
+]));
+
+/// Target, without its angle brackets.
+pub static TARGET: Rule = Any(&Either(&[
+    &One(octet::target),
+    &Seq(&[&PERCENT, &HEX, &HEX]),
+]));
+
+#[cfg(test)]
+mod tests {
+    use super::*;
+
+    /// The length of a shortest text that the rule derives, if it derives any;
+    /// on the way, every part under `Any` is checked to need an octet.
+    fn shortest(rule: &Rule) -> Option<usize> {
+        match rule {
+            One(class) => (0..=255).any(class).then_some(1),
+            Seq(parts) => parts.iter().map(|part| shortest(part)).sum(),
+            Either(parts) => {
+                let each: Option<Vec<usize>> = parts.iter().map(|part| shortest(part)).collect();
+                each?.into_iter().min()
+            }
+            Any(part) => shortest(part).filter(|&length| length > 0).map(|_| 0),
+            Labelled(_, part) => shortest(part),
+        }
+    }
+
+    #[test]
+    fn every_rule_derives_a_text_and_no_repeated_part_is_empty() {
+        assert_eq!(shortest(&FIELD), Some(0));
+        assert_eq!(shortest(&LINK), Some(2));
+        assert_eq!(shortest(&PARAMETER), Some(1));
+        assert_eq!(shortest(&TOKEN), Some(1));
+        assert_eq!(shortest(&QUOTED), Some(0));
+        assert_eq!(shortest(&TARGET), Some(0));
+    }
+}

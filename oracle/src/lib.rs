@@ -1,0 +1,39 @@
+//! A reference for the Link field contract (`01-scope.md`, called 01 below).
+//!
+//! It answers the same questions as the product and is written in another
+//! way: the grammar is a value (`grammar`), what it derives is asked by sets
+//! of places (`sets`), the malformed place by the cuts that can still be
+//! completed (`prefix`), and the records come from a derivation found so
+//! (`derivation`, `reading`). All else follows 01's definitions word by
+//! word. Clarity comes before speed.
+//!
+//! Tables are lent as slots of plain numbers, and every answer begins with
+//! one of 01's numbers ([`number`]).
+
+mod context;
+mod derivation;
+mod grammar;
+mod kept;
+mod listing;
+mod meaning;
+pub mod number;
+mod octet;
+mod output;
+mod prefix;
+mod read;
+mod reading;
+mod record;
+mod search;
+mod sets;
+mod table;
+mod value;
+mod write;
+
+pub use context::context;
+pub use listing::listing;
+pub use meaning::{meanings, LinkMeaning, ParamMeaning};
+pub use read::{read, ReadAnswer};
+pub use search::search;
+pub use table::good;
+pub use value::value;
+pub use write::write;

@@ -1,0 +1,36 @@
+//! What the listing program prints.
+
+use crate::number::DONE;
+use crate::read::read;
+
+const LINK_ROOM: usize = 256;
+const PARAM_ROOM: usize = 1024;
+
+/// The lines listed for what standard input holds: a field value, and one
+/// final LF, if there, that doesn't belong to it.
+pub fn listing(input: &[u8]) -> String {
+    let header = input.strip_suffix(b"\n").unwrap_or(input);
+    let mut link_slots = [0; LINK_ROOM * 4];
+    let mut param_slots = [0; PARAM_ROOM * 5];
+    let answer = read(header, &mut link_slots, &mut param_slots);
+    if answer.number != DONE {
+        return line("refused", &[answer.number, answer.place]);
+    }
+    let mut lines = line("links", &[answer.links, answer.params]);
+    let mut params = param_slots.as_chunks::<5>().0.iter().enumerate();
+    let links = link_slots.as_chunks::<4>().0.iter().enumerate();
+    for (link, record) in links.take(answer.links) {
+        lines += &line("link", &[&[link], &record[..]].concat());
+        let [_, _, _, count] = *record;
+        for (param, record) in params.by_ref().take(count) {
+            lines += &line("param", &[&[param], &record[..]].concat());
+        }
+    }
+    lines
+}
+
+/// A word and numbers, tab-parted and LF-ended.
+fn line(word: &str, numbers: &[usize]) -> String {
+    let numbers: String = numbers.iter().map(|number| format!("\t{number}")).collect();
+    format!("{word}{numbers}\n")
+}

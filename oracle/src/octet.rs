@@ -1,0 +1,31 @@
+//! The classes of octets that the grammar names.
+
+/// SP or HTAB.
+pub fn blank(octet: u8) -> bool {
+    matches!(octet, b' ' | b'\t')
+}
+
+/// An octet of a token or a name.
+pub fn token(octet: u8) -> bool {
+    octet.is_ascii_alphanumeric() || b"!#$%&'*+-.^_`|~".contains(&octet)
+}
+
+/// A plain octet of a quoted string.
+pub fn plain(octet: u8) -> bool {
+    matches!(octet, 9 | 32 | 33 | 35..=91 | 93..=126 | 128..=255)
+}
+
+/// An octet that may follow `\` in a quoted string.
+pub fn escaped(octet: u8) -> bool {
+    matches!(octet, 9 | 32..=126 | 128..=255)
+}
+
+/// An octet that stands for itself in a target.
+pub fn target(octet: u8) -> bool {
+    octet.is_ascii_alphanumeric() || b"-._~:/?#[]@!$&'()*+,;=".contains(&octet)
+}
+
+/// A hex digit of either case.
+pub fn hex(octet: u8) -> bool {
+    octet.is_ascii_hexdigit()
+}

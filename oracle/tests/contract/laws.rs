@@ -1,0 +1,158 @@
+//! Laws, run over many small headers.
+
+use crate::{read_amply, read_in, Tables};
+use oracle::number::MALFORMED;
+use oracle::ReadAnswer;
+
+/// A fixed run of numbers that look random.
+struct Numbers(u64);
+
+impl Numbers {
+    fn below(&mut self, bound: usize) -> usize {
+        self.0 = self
+            .0
+            .wrapping_mul(6364136223846793005)
+            .wrapping_add(1442695040888963407);
+        (self.0 >> 33) as usize % bound
+    }
+
+    /// A header put together from pieces that often fit.
+    fn header(&mut self) -> Vec<u8> {
+        const PIECES: [&str; 18] = [
+            "<a>",
+            "<>",
+            "<b,c;%41>",
+            ";",
+            " ;\t",
+            ";rel=x",
+            "; rel=\"y Z\"",
+            ";REL = \"\\z\"",
+            ";title*=t",
+            ";hreflang",
+            ";w=\"\\\",\"",
+            ",",
+            " , ",
+            " ",
+            "\"",
+            "x",
+            "=",
+            "%",
+        ];
+        let count = self.below(8);
+        let pieces: Vec<&str> = (0..count)
+            .map(|_| PIECES[self.below(PIECES.len())])
+            .collect();
+        pieces.concat().into_bytes()
+    }
+
+    fn accepted(&mut self) -> (Vec<u8>, ReadAnswer, Tables) {
+        loop {
+            let header = self.header();
+            let (answer, tables) = read_amply(&header);
+            if answer.number == 0 {
+                return (header, answer, tables);
+            }
+        }
+    }
+}
+
+fn derivable(header: &[u8]) -> bool {
+    oracle::read(header, &mut [], &mut []).number != MALFORMED
+}
+
+/// Whether the prefix begins a derivable header. What is open at its end can
+/// be closed by at most three octets of these four.
+fn begins_a_header(prefix: &[u8]) -> bool {
+    let mut headers = vec![prefix.to_vec()];
+    for _ in 0..4 {
+        if headers.iter().any(|header| derivable(header)) {
+            return true;
+        }
+        let longer = |header: &Vec<u8>| b"0>x\"".map(|octet| [&header[..], &[octet]].concat());
+        headers = headers.iter().flat_map(longer).collect();
+    }
+    false
+}
+
+#[test]
+fn the_place_is_the_longest_prefix_that_begins_a_header() {
+    // What begins a header has only prefixes that do, so one octet more is
+    // enough to look at.
+    let mut numbers = Numbers(1);
+    let mut malformed = 0;
+    while malformed < 1500 {
+        let mut header = numbers.header();
+        if numbers.below(3) == 0 {
+            let at = numbers.below(header.len() + 1);
+            header.insert(at, numbers.below(256) as u8);
+        }
+        let (answer, _) = read_amply(&header);
+        if answer.number == 0 {
+            continue;
+        }
+        malformed += 1;
+        let place = answer.place;
+        assert_eq!(answer.number, MALFORMED);
+        assert!(begins_a_header(&header[..place]), "{header:?}");
+        let longer = header.get(..place + 1);
+        assert!(!longer.is_some_and(begins_a_header), "{header:?}");
+    }
+}
+
+#[test]
+fn every_cut_of_an_accepted_header_has_its_own_length_as_place() {
+    let header = br#" <a%4f> ; x = "\"y" ; z ,, <b>;rel=c "#;
+    assert!(derivable(header));
+    for cut in 0..header.len() {
+        let (answer, _) = read_amply(&header[..cut]);
+        let place = if answer.number == 0 { 0 } else { cut };
+        assert_eq!(answer.place, place);
+    }
+}
+
+#[test]
+fn a_join_reads_as_its_headers() {
+    let mut numbers = Numbers(2);
+    for _ in 0..1000 {
+        let mut join = vec![];
+        let mut links = vec![];
+        let mut params = vec![];
+        for place in 0..numbers.below(5) {
+            let (header, _, tables) = numbers.accepted();
+            if place > 0 {
+                join.push(b',');
+            }
+            join.extend(vec![b' '; numbers.below(3)]);
+            let (raised, former) = (join.len(), params.len());
+            for &[start, end, first, count] in tables.link_slots.as_chunks().0 {
+                links.push([start + raised, end + raised, first + former, count]);
+            }
+            for &[a, b, c, d, form] in tables.param_slots.as_chunks().0 {
+                params.push([a + raised, b + raised, c + raised, d + raised, form]);
+            }
+            join.extend(header);
+            join.extend(vec![b'\t'; numbers.below(3)]);
+        }
+        let (answer, tables) = read_in(&join, links.len(), params.len());
+        assert_eq!(answer.number, 0);
+        assert_eq!(tables.link_slots, links.concat());
+        assert_eq!(tables.param_slots, params.concat());
+    }
+}
+
+#[test]
+fn what_is_written_reads_back() {
+    let mut numbers = Numbers(3);
+    let mut written = 0;
+    while written < 1000 {
+        let (_, answer, tables) = numbers.accepted();
+        let Ok(form) = tables.write(8192) else {
+            continue;
+        };
+        written += 1;
+        let (again, back) = read_in(&form, answer.links, answer.params);
+        assert_eq!(again, answer);
+        assert_eq!(back.meanings(), tables.meanings());
+        assert_eq!(back.write(form.len()), Ok(form));
+    }
+}
