@@ -111,5 +111,6 @@ keeps =
       title = refl;
       title* = refl;
       type = refl;
-      hreflang = refl; only = λ n. refl;
+      hreflang = refl;
+      only = λ n. refl;
     }

@@ -24,7 +24,7 @@ pub over-then : (l : List ℕ) (i : ℕ) (xs ys : List ℕ) → i + length xs + 
     → over (over l i xs) (i + length xs) ys ≡ over l i (xs ++ ys)
 over-then l i xs ys h =
     let n : length (take i l ++ xs) ≡ i + length xs =
-        length-append (take i l) xs ∙ ap (λ (k : ℕ). k + length xs) (length-take-le i l (omega arith))
+    length-append (take i l) xs ∙ ap (λ (k : ℕ). k + length xs) (length-take-le i l (omega arith))
     in
     ap₂ (λ (a b : List ℕ). a ++ ys ++ b) (take-at (take i l ++ xs) (drop (i + length xs) l) (i + length xs) n)
     (ap (λ (k : ℕ). drop k (over l i xs)) (ap (λ (k : ℕ). k + length ys) (sym n))
@@ -40,6 +40,10 @@ over-none l i =
 
 pub over-length : (l : List ℕ) (i : ℕ) (xs : List ℕ) → i + length xs ≤ length l → length (over l i xs) ≡ length l
 over-length l i xs h =
-    omega
-    (arith, length-append (take i l ++ xs) (drop (i + length xs) l), length-append (take i l) xs,
-    length-take-le i l (omega arith), length-drop (i + length xs) l)
+    omega (
+      arith,
+      length-append (take i l ++ xs) (drop (i + length xs) l),
+      length-append (take i l) xs,
+      length-take-le i l (omega arith),
+      length-drop (i + length xs) l,
+    )

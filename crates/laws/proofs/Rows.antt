@@ -50,7 +50,7 @@ lookups-hold =
       copied-second = λ out h. copied third-usable (omega arith) (omega arith) h;
       no-third = λ out. no-such-param third-usable (omega arith) (omega arith);
       no-second = λ base. no-such-link third-usable (omega arith);
-      unanchored = λ base. unanchored fifth-usable (omega arith) refl
+      unanchored = λ base. unanchored fifth-usable (omega arith) refl;
     }
 
 pub premise-needed : PremiseNeeded

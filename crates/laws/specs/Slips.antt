@@ -47,7 +47,7 @@ slips =
       judgement =
           reads (1 ∷ 2 ∷ 0 ∷ 2 ∷ 16 ∷ 17 ∷ 2 ∷ 1 ∷ [])
           (4 ∷ 7 ∷ 8 ∷ 9 ∷ 1 ∷ 10 ∷ 11 ∷ 11 ∷ 11 ∷ 0 ∷ 19 ∷ 22 ∷ 23 ∷ 24 ∷ 1 ∷ []) (octets "b" ∷ [])
-          (writes (octets "<a>; rel=b; c=\"\", <d>; rel=e"))
+          (writes (octets "<a>; rel=b; c=\"\", <d>; rel=e"));
     }
     -- a later one of a kept name must still be well formed
     ∷ record { header = octets "<a>;rel=b;rel=;"; judgement = malformed 14 }

@@ -15,8 +15,7 @@ pub fn slips_hold()
 // Contexts and copied values of two marked headers.
 pub fn lookups_hold()
     ensures { λ _. ⌜ LookupsHold ⌝ }
-{
-}
+{}
 
 // Two malformed headers may join to one that is not.
 pub fn premise_needed()

@@ -22,24 +22,29 @@ use Rattle.outcomes.specs.Laws.{ReadKeeps, CopyKeeps, Refusals}
 plainly : (L P : List ℕ) (n : ℕ) → (n ≡ 0 → ⊥) → ReadKeeps L P (Reading.refused L P n 0)
 plainly L P n z =
     record {
-      refused = λ _. (refl, refl, refl, refl); place = λ _. refl; behind-links = λ e. absurd (z e);
-      behind-params = λ e. absurd (z e)
+      refused = λ _. (refl, refl, refl, refl);
+      place = λ _. refl;
+      behind-links = λ e. absurd (z e);
+      behind-params = λ e. absurd (z e);
     }
 
 read : (h L P : List ℕ) (o : Reading.ReadOut) → Reading.Read h L P o → ReadKeeps L P o
 read h L P _ (Reading.too-long l) = plainly L P 1 (λ e. omega arith)
 read h L P _ (Reading.not-derived s m p) =
     record {
-      refused = λ _. (refl, refl, refl, refl); place = λ n. absurd (n refl); behind-links = λ e. absurd (omega arith);
-      behind-params = λ e. absurd (omega arith)
+      refused = λ _. (refl, refl, refl, refl);
+      place = λ n. absurd (n refl);
+      behind-links = λ e. absurd (omega arith);
+      behind-params = λ e. absurd (omega arith);
     }
 read h L P _ (Reading.no-link-room s r l) = plainly L P 3 (λ e. omega arith)
 read h L P _ (Reading.no-param-room s r l m) = plainly L P 4 (λ e. omega arith)
 read h L P _ (Reading.reads {K = K} s r l m) =
     record {
-      refused = λ n. absurd (n refl); place = λ _. refl;
+      refused = λ n. absurd (n refl);
+      place = λ _. refl;
       behind-links = λ _. drop-at (linkRecords 0 K) (drop (4 * length K) L) (4 * length K) (link-records-length 0 K);
-      behind-params = λ _. drop-at (paramRecords K) (drop (5 * countParams K) P) (5 * countParams K) (param-records-length K)
+      behind-params = λ _. drop-at (paramRecords K) (drop (5 * countParams K) P) (5 * countParams K) (param-records-length K);
     }
 
 -- a table that is refused is refused with no 0

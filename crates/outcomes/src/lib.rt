@@ -4,8 +4,7 @@ ghost use Rattle.outcomes.specs.Laws.{Refusals, ReadSettled, SearchSettl
 // A refusal answers zeros and changes nothing lent, and success keeps what stands behind.
 pub fn refusals()
     ensures { λ _. ⌜ Refusals ⌝ }
-{
-}
+{}
 
 // Reading a header has one outcome.
 pub fn read_settled()

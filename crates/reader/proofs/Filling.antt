@@ -63,10 +63,10 @@ module _ {s old : List ℕ} {a m : ℕ} (b : BeforeParams s old a m) where
       let (ps, Q, e) = ready-whole (b .derived) (ready-here g) in
       let o = holding (b .links) (b .from) (b .to) qs in
       let p = subst
-          (λ (R : List Link).
-            countParams (map (keptLink s) (b .links)) + length (keepAfter s [] (reverse qs))
-            ≤ countParams (map (keptLink s) R))
-          (sym e) (whole-params s o ps Q)
+      (λ (R : List Link).
+      countParams (map (keptLink s) (b .links)) + length (keepAfter s [] (reverse qs))
+      ≤ countParams (map (keptLink s) R))
+      (sym e) (whole-params s o ps Q)
       in
       omega (arith, p, b .room, b .number, g .kept)
 
@@ -75,10 +75,13 @@ module _ {s old : List ℕ} {a m : ℕ} (b : BeforeParams s old a m) where
       → Looked s j 59 q → not q ≡ true → ParamsFilled s a j m n old new
   filled-ends {q = q} w p l f =
       record {
-        params = w .params; end = _; chain = w .along .chain; blanks = p;
+        params = w .params;
+        end = _;
+        chain = w .along .chain;
+        blanks = p;
         ends = ready-ends (b .derived) (ready-blanks (ready-here (w .along)) (p .run)) (p .stops) (l .not (not-true q f));
         next = w .number ∙ ap (λ (k : ℕ). m + k) (w .along .kept);
-        written = w .written
+        written = w .written;
       }
 
   -- a parameter that doesn't fit can't stand there
@@ -140,11 +143,12 @@ module _ {s old : List ℕ} {a m : ℕ} (b : BeforeParams s old a m) where
     unfolding kept
     written-on t y =
         record {
-          count = w .count + cond z 0 1; params = toParam r ∷ w .params;
+          count = w .count + cond z 0 1;
+          params = toParam r ∷ w .params;
           along = subst (λ (g : Seen). Along s a (d .at .0) (w .count + cond z 0 1) g (toParam r ∷ w .params)) (sym y) along-more;
           number = t .0 ∙ ap (λ (g : ℕ). g + cond z 0 1) (w .number) ∙ add-assoc m (w .count) (cond z 0 1);
           written =
               t .1 ∙ records-more z refl
               ∙ ap (λ (g : Bool). over old (5 * m) (recordsOf (kept ++ unless g (toParam r) []))) told
-              ∙ ap (λ (ks : List Param). over old (5 * m) (recordsOf ks)) (sym (keep-more s (toParam r) (w .params)))
+              ∙ ap (λ (ks : List Param). over old (5 * m) (recordsOf ks)) (sym (keep-more s (toParam r) (w .params)));
         }

@@ -46,15 +46,21 @@ module _ {s L P : List ℕ} {a n m : ℕ} (b : BeforeLink s L P a n m) where
     pub before-params : BeforeParams s P j m
     before-params =
         record {
-          all = b .all; derived = b .derived; room = b .param-room; links = b .links; from = a; to = c .at .0; ready = ready;
-          number = b .param-number
+          all = b .all;
+          derived = b .derived;
+          room = b .param-room;
+          links = b .links;
+          from = a;
+          to = c .at .0;
+          ready = ready;
+          number = b .param-number;
         }
 
     pub link-room : 4 * n + 4 ≤ length L
     link-room =
         let (ps, Q, w) = ready-whole (b .derived) ready in
         let h = subst (λ (R : List Link). suc (length (b .links)) ≤ length R) (sym w)
-            (whole-links s (opened (b .links) a (c .at .0)) ps Q)
+        (whole-links s (opened (b .links) a (c .at .0)) ps Q)
         in
         omega (arith, h, b .link-room, b .link-number)
 
@@ -66,13 +72,20 @@ module _ {s L P : List ℕ} {a n m : ℕ} (b : BeforeLink s L P a n m) where
           count = x - m;
           link =
               record {
-                close = c .at .0; target = passed .0; closed = passed .1;
+                close = c .at .0;
+                target = passed .0;
+                closed = passed .1;
                 rest =
                     record {
-                      params = f .params; end = f .end;
+                      params = f .params;
+                      end = f .end;
                       chain = subst (λ (y : ℕ). Chain s y (f .params) (f .end)) (k ∙ add-one (c .at .0)) (f .chain);
-                      blanks = f .blanks; ends = f .ends; kept = kept
-                    }
+                      blanks = f .blanks;
+                      ends = f .ends;
+                      kept = kept;
+                    };
               };
-          next = omega (arith, f .next); links-written = w; params-written = f .written
+          next = omega (arith, f .next);
+          links-written = w;
+          params-written = f .written;
         }

@@ -16,7 +16,21 @@ use Rattle.grammar.specs.Kept.{nameOf, keepAfter, keptLink}
 use Rattle.grammar.specs.Records.{countParams}
 use Rattle.grammar.proofs.Machine.{State, gap, target, after, semi, dead, run, step, Open, next, close}
 use Rattle.grammar.proofs.Rest.{
-  whole, Rest, r-gap, r-target, r-percent, r-hex, r-after, r-semi, r-name, r-named, r-equals, r-bare, r-wide, r-quote, r-escape
+  whole,
+  Rest,
+  r-gap,
+  r-target,
+  r-percent,
+  r-hex,
+  r-after,
+  r-semi,
+  r-name,
+  r-named,
+  r-equals,
+  r-bare,
+  r-wide,
+  r-quote,
+  r-escape,
 }
 use Rattle.grammar.proofs.Prefix.{isDead}
 use Rattle.grammar.proofs.Forward.{forward}
@@ -49,8 +63,13 @@ module _ {s : List ℕ} {R : List Link} (f : Field rfc8288 s R) where
   rest-at zero h =
       r-gap
       (record {
-        start = f .start; stop = f .stop; end = f .end; before = f .before; items = f .items; after = f .after;
-        complete = f .whole
+        start = f .start;
+        stop = f .stop;
+        end = f .end;
+        before = f .before;
+        items = f .items;
+        after = f .after;
+        complete = f .whole;
       })
   rest-at (suc i) h =
       let here : Stands s (run rfc8288 (gap []) 0 (take i s)) i = record { inside = omega arith; is = refl } in
@@ -71,6 +90,7 @@ module _ {s : List ℕ} {R : List Link} (f : Field rfc8288 s R) where
       go true y z (r-after {ps = ps} {R = Q} a) = (ps, Q, refl)
       go false true z (r-semi {p = p} {ps = ps} {R = Q} b q a) = (p ∷ ps, Q, refl)
       go false false true (r-gap {R = Q} g) = ([], Q, refl)
+
       test : Dec (length s ≤ i) → (ps : List Param) × (Q : List Link) × (R ≡ whole o ps Q)
       test (yes h) = ([], [], one-derived rfc8288 apart8288 s f (finishes (r .stands) h (r .settles)))
       test (no h) =
@@ -89,6 +109,7 @@ module _ {s : List ℕ} {R : List Link} (f : Field rfc8288 s R) where
         where
           l : i < length s
           l = omega arith
+
           go : (z : Bool) → eqb (getD s i 0) 44 ≡ z → Rest rfc8288 s (step rfc8288 (r .state) i (getD s i 0)) (suc i) R
               → (length s ≤ i) ⊎ At s i 44
           go true e w = inr (record { inside = l; is = eqb-true (getD s i 0) 44 e })
@@ -106,14 +127,14 @@ module _ (s : List ℕ) (o : Open) (ps : List Param) (Q : List Link) where
   whole-params =
       let l : Link = record { targetFrom = o .targetFrom; targetTo = o .targetTo; params = reverseAux (o .params) ps } in
       let e : countParams (map (keptLink s) (whole o ps Q))
-          ≡ countParams (map (keptLink s) (o .done)) + countParams (map (keptLink s) (l ∷ Q)) =
-          ap countParams (sym (map-reverseAux (keptLink s) (o .done) (l ∷ Q)))
-          ∙ count-reverse (map (keptLink s) (o .done)) (map (keptLink s) (l ∷ Q))
+      ≡ countParams (map (keptLink s) (o .done)) + countParams (map (keptLink s) (l ∷ Q)) =
+      ap countParams (sym (map-reverseAux (keptLink s) (o .done) (l ∷ Q)))
+      ∙ count-reverse (map (keptLink s) (o .done)) (map (keptLink s) (l ∷ Q))
       in
       let k : length (keepAfter s [] (reverseAux (o .params) ps))
-          ≡ length (keepAfter s [] (reverse (o .params)))
-          + length (keepAfter s (reverseAux (map (nameOf s) (reverse (o .params))) []) ps) =
-          ap (λ (x : List Param). length (keepAfter s [] x)) (reverseAux-eq (o .params) ps)
-          ∙ ap length (keep-append s [] (reverse (o .params)) ps) ∙ length-append (keepAfter s [] (reverse (o .params))) _
+      ≡ length (keepAfter s [] (reverse (o .params)))
+      + length (keepAfter s (reverseAux (map (nameOf s) (reverse (o .params))) []) ps) =
+      ap (λ (x : List Param). length (keepAfter s [] x)) (reverseAux-eq (o .params) ps)
+      ∙ ap length (keep-append s [] (reverse (o .params)) ps) ∙ length-append (keepAfter s [] (reverse (o .params))) _
       in
       omega (arith, e, k)

@@ -60,13 +60,14 @@ held-filled : {s L₀ P₀ L P : List ℕ} (ls : List Link) → Field rfc8288 s 
     → Filled s L₀ L P₀ P
 held-filled {s} {L₀} {P₀} ls f h =
     record {
-      reading = ordered s ls; reads = record { links = reverse ls; derived = f; kept = refl };
+      reading = ordered s ls;
+      reads = record { links = reverse ls; derived = f; kept = refl };
       links =
           h .link-slots
           ∙ over-start L₀ (linkRecords 0 (ordered s ls)) (4 * length (ordered s ls)) (link-records-length 0 (ordered s ls));
       params =
           h .param-slots
-          ∙ over-start P₀ (paramRecords (ordered s ls)) (5 * countParams (ordered s ls)) (param-records-length (ordered s ls))
+          ∙ over-start P₀ (paramRecords (ordered s ls)) (5 * countParams (ordered s ls)) (param-records-length (ordered s ls));
     }
 
 -- at place i, between links
@@ -101,27 +102,29 @@ module _ {s L₀ P₀ : List ℕ} (fits : Fits s L₀ P₀) where
           → (length ls ≤ length R) × (countParams (map (keptLink s) ls) ≤ countParams (map (keptLink s) R))
       go (r-gap {ls = ls} {R = Q} g) =
           let e : countParams (map (keptLink s) (reverseAux ls Q))
-              ≡ countParams (map (keptLink s) ls) + countParams (map (keptLink s) Q) =
-              ap countParams (sym (map-reverseAux (keptLink s) ls Q)) ∙ count-reverse (map (keptLink s) ls) (map (keptLink s) Q)
+          ≡ countParams (map (keptLink s) ls) + countParams (map (keptLink s) Q) =
+          ap countParams (sym (map-reverseAux (keptLink s) ls Q)) ∙ count-reverse (map (keptLink s) ls) (map (keptLink s) Q)
           in
           (omega (arith, length-reverseAux ls Q), omega (arith, e))
 
   pub filling-start : {i : ℕ} → i ≡ 0 → Filling s L₀ P₀ i 0 0 L₀ P₀
   filling-start e =
       record {
-        links = []; stands = subst (Stands s (gap [])) (sym e) (stands-start s); link-number = refl; param-number = refl;
-        held = record { link-slots = sym (over-none L₀ 0); param-slots = sym (over-none P₀ 0) }
+        links = [];
+        stands = subst (Stands s (gap [])) (sym e) (stands-start s);
+        link-number = refl;
+        param-number = refl;
+        held = record { link-slots = sym (over-none L₀ 0); param-slots = sym (over-none P₀ 0) };
       }
 
   module _ {i n m : ℕ} {L P : List ℕ} (w : Filling s L₀ P₀ i n m L P) where
     records-fit : (length (linkRecords 0 (ordered s (w .links))) ≤ length L₀)
         × (length (paramRecords (ordered s (w .links))) ≤ length P₀)
     records-fit =
-        let g = gap-part (w .stands) in
-        (
+        let g = gap-part (w .stands) in (
           omega
-          (arith, g .0, links-fit, link-records-length 0 (ordered s (w .links)), ordered-length s (w .links)),
-          omega (arith, g .1, params-fit, param-records-length (ordered s (w .links)), ordered-count s (w .links))
+              (arith, g .0, links-fit, link-records-length 0 (ordered s (w .links)), ordered-length s (w .links)),
+          omega (arith, g .1, params-fit, param-records-length (ordered s (w .links)), ordered-count s (w .links)),
         )
 
     -- the number of links fits, since their slots do
@@ -129,13 +132,12 @@ module _ {s L₀ P₀ : List ℕ} (fits : Fits s L₀ P₀) where
     links-few = omega (arith, gap-part (w .stands) .0, links-fit, w .link-number)
 
     pub filling-lengths : (length L ≡ length L₀) × (length P ≡ length P₀)
-    filling-lengths =
-        (
-          ap length (w .held .link-slots)
+    filling-lengths = (
+      ap length (w .held .link-slots)
           ∙ over-length L₀ 0 (linkRecords 0 (ordered s (w .links))) (omega (arith, records-fit .0)),
-          ap length (w .held .param-slots)
-          ∙ over-length P₀ 0 (paramRecords (ordered s (w .links))) (omega (arith, records-fit .1))
-        )
+      ap length (w .held .param-slots)
+          ∙ over-length P₀ 0 (paramRecords (ordered s (w .links))) (omega (arith, records-fit .1)),
+    )
 
     module _ {j : ℕ} (p : Passed isBlank s i j) where
       gap-on : Stands s (gap (w .links)) j
@@ -152,7 +154,9 @@ module _ {s L₀ P₀ : List ℕ} (fits : Fits s L₀ P₀) where
             stands =
                 subst (Stands s (gap (w .links))) (sym (e ∙ add-one j))
                 (stands-on (gap (w .links)) gap-on (q .inside) (rw (q .is)));
-            link-number = w .link-number; param-number = w .param-number; held = w .held
+            link-number = w .link-number;
+            param-number = w .param-number;
+            held = w .held;
           }
 
       -- where neither blank nor comma stands, a link begins
@@ -180,10 +184,14 @@ module _ {s L₀ P₀ : List ℕ} (fits : Fits s L₀ P₀) where
         unfolding all
         before-link =
             record {
-              all = all; derived = fits .reads .derived;
+              all = all;
+              derived = fits .reads .derived;
               link-room = omega (arith, links-fit, filling-lengths .0);
               param-room = omega (arith, params-fit, filling-lengths .1);
-              links = w .links; stands = begun; link-number = w .link-number; param-number = w .param-number
+              links = w .links;
+              stands = begun;
+              link-number = w .link-number;
+              param-number = w .param-number;
             }
 
         module _ {d x : ℕ} {L′ P′ : List ℕ} (f : LinkFilled s k d n m x L L′ P P′) where
@@ -205,14 +213,13 @@ module _ {s L₀ P₀ : List ℕ} (fits : Fits s L₀ P₀) where
           unfolding all kept
           part =
               let (ps, Q, e) = ready-whole (fits .reads .derived) here in
-              let o = holding (w .links) k (f .link .close) (f .link .rest .params) in
-              (
+              let o = holding (w .links) k (f .link .close) (f .link .rest .params) in (
                 subst (λ (R : List Link). suc (length (w .links)) ≤ length R) (sym e) (whole-links s o ps Q),
                 subst
-                (λ (R : List Link).
-                  countParams (map (keptLink s) (w .links)) + length (keepAfter s [] (reverse (f .link .rest .params)))
-                  ≤ countParams (map (keptLink s) R))
-                (sym e) (whole-params s o ps Q)
+                    (λ (R : List Link).
+                    countParams (map (keptLink s) (w .links)) + length (keepAfter s [] (reverse (f .link .rest .params)))
+                    ≤ countParams (map (keptLink s) R))
+                    (sym e) (whole-params s o ps Q),
               )
 
           numbers : List ℕ
@@ -222,7 +229,7 @@ module _ {s L₀ P₀ : List ℕ} (fits : Fits s L₀ P₀) where
           unfolding link numbers
           links-more =
               let first : m ≡ 0 + countParams (ordered s (w .links)) =
-                  w .param-number ∙ sym (zero-add (countParams (ordered s (w .links))) ∙ ordered-count s (w .links))
+              w .param-number ∙ sym (zero-add (countParams (ordered s (w .links))) ∙ ordered-count s (w .links))
               in
               ap₂
               (λ (x y : ℕ). linkRecords 0 (ordered s (w .links)) ++ (k ∷ f .link .close ∷ x ∷ y ∷ []))
@@ -244,11 +251,11 @@ module _ {s L₀ P₀ : List ℕ} (fits : Fits s L₀ P₀) where
           held-more =
               let l = link-records-length 0 (ordered s (w .links)) in
               let at : 4 * n ≡ 0 + length (linkRecords 0 (ordered s (w .links))) =
-                  omega (arith, l, ordered-length s (w .links), w .link-number)
+              omega (arith, l, ordered-length s (w .links), w .link-number)
               in
               let r = param-records-length (ordered s (w .links)) in
               let to : 5 * m ≡ 0 + length (paramRecords (ordered s (w .links))) =
-                  omega (arith, r, ordered-count s (w .links), w .param-number)
+              omega (arith, r, ordered-count s (w .links), w .param-number)
               in
               record {
                 link-slots =
@@ -262,7 +269,7 @@ module _ {s L₀ P₀ : List ℕ} (fits : Fits s L₀ P₀) where
                     ∙ ap₂ (λ (t : List ℕ) (g : ℕ). over t g (recordsOf kept)) (w .held .param-slots) to
                     ∙ over-then P₀ 0 (paramRecords (ordered s (w .links))) (recordsOf kept)
                     (omega (arith, r, ordered-count s (w .links), part .1, params-fit, records-length kept))
-                    ∙ ap (over P₀ 0) params-more
+                    ∙ ap (over P₀ 0) params-more;
               }
 
           pub filled-behind : length s ≤ d → Filled s L₀ L′ P₀ P′
@@ -279,7 +286,7 @@ module _ {s L₀ P₀ : List ℕ} (fits : Fits s L₀ P₀) where
                     (ready-comma here (there (f .link .rest .ends)));
                 link-number = add-one n ∙ ap suc (w .link-number);
                 param-number = omega (arith, f .next, w .param-number, kept-count);
-                held = held-more
+                held = held-more;
               }
             where
               there : (length s ≤ d) ⊎ At s d 44 → At s d 44
@@ -292,12 +299,11 @@ module _ {s L₀ P₀ : List ℕ} (fits : Fits s L₀ P₀) where
           pub lengths-kept : (length L′ ≡ length L₀) × (length P′ ≡ length P₀)
           unfolding link kept
           lengths-kept =
-              let ls = linkOf (f .link) ∷ w .links in
-              (
+              let ls = linkOf (f .link) ∷ w .links in (
                 ap length (held-more .link-slots)
-                ∙ over-length L₀ 0 (linkRecords 0 (ordered s ls))
-                (omega (arith, link-records-length 0 (ordered s ls), ordered-length s ls, part .0, links-fit)),
+                    ∙ over-length L₀ 0 (linkRecords 0 (ordered s ls))
+                    (omega (arith, link-records-length 0 (ordered s ls), ordered-length s ls, part .0, links-fit)),
                 ap length (held-more .param-slots)
-                ∙ over-length P₀ 0 (paramRecords (ordered s ls))
-                (omega (arith, param-records-length (ordered s ls), ordered-count s ls, part .1, params-fit))
+                    ∙ over-length P₀ 0 (paramRecords (ordered s ls))
+                    (omega (arith, param-records-length (ordered s ls), ordered-count s ls, part .1, params-fit)),
               )

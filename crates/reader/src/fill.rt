@@ -6,11 +6,16 @@ ghost use Prim.Native.Nat.{_+_, _*_, _≤_};
 ghost use lib.ListN.{length, drop};
 ghost use Rattle.kinds.specs.Slots.{over, paramNumbers};
 ghost use Rattle.reader.specs.Filling.{Fits, BeforeParams, ParamsFilled, BeforeLink, LinkFilled, Filled};
-
 use cursor::Cursor;
-use kinds::{LinkNumber, LinkRecord, ParamNumber, ParamRecord, Place, Span};
+use kinds::LinkNumber;
+use kinds::LinkRecord;
+use kinds::ParamNumber;
+use kinds::ParamRecord;
+use kinds::Place;
+use kinds::Span;
 use names::Seen;
-use scanner::{ParamScan, Scan};
+use scanner::ParamScan;
+use scanner::Scan;
 
 // The cursor behind a link's parameters, and the number of the next parameter.
 pub struct Next {
@@ -43,7 +48,7 @@ fn fill_params(s: &[u8], from: Cursor, params: &mut [usize], m: usize) -> Next
         if !i.sees(s, b';') {
             return Next { at: i, next: n };
         }
-        match scanner::past_param(s, i.past_octet(s).past_blanks(s)) {
+        match scanner::param::past_param(s, i.past_octet(s).past_blanks(s)) {
             ParamScan::NoParam(_p) => {
                 return Next { at: i, next: n };
             }
@@ -58,11 +63,18 @@ fn fill_params(s: &[u8], from: Cursor, params: &mut [usize], m: usize) -> Next
 }
 
 // Writes the records of a link, behind its `<`, and of its kept parameters.
-fn fill_link(s: &[u8], from: Cursor, links: &mut [usize], n: usize, params: &mut [usize], m: usize) -> Next
+fn fill_link(
+    s: &[u8],
+    from: Cursor,
+    links: &mut [usize],
+    n: usize,
+    params: &mut [usize],
+    m: usize,
+) -> Next
     requires { ⌜ BeforeLink (now s) (now links) (now params) (from .at .0) n m ⌝ }
     ensures { λ r. ⌜ LinkFilled (now (s .entry)) (from .at .0) (r .at .at .0) n m (r .next) (now (links .entry)) (now (links .exit)) (now (params .entry)) (now (params .exit)) ⌝ }
 {
-    match scanner::past_target(s, from) {
+    match scanner::target::past_target(s, from) {
         Scan::Stuck(_p) => Next { at: from, next: m },
         Scan::Past(t) => {
             let f = fill_params(s, t.past_octet(s), params, m);

@@ -5,7 +5,6 @@ ghost use Prim.Native.Nat.{_≤_};
 ghost use lib.ListN.{length};
 ghost use Rattle.outcomes.specs.Read.{Read};
 ghost use Rattle.reader.specs.Answer.{readOut};
-
 use kinds::Place;
 use scanner::HeaderScan;
 

@@ -56,8 +56,12 @@ module _ {s : List ℕ} where
   start e =
       subst (λ (i : ℕ). Between s i 0 0) (sym e)
       (record {
-        links = []; stands = stands-start s; link-count = refl; param-count = refl; few-links = omega arith;
-        few-params = omega arith
+        links = [];
+        stands = stands-start s;
+        link-count = refl;
+        param-count = refl;
+        few-links = omega arith;
+        few-params = omega arith;
       })
 
   gap-on : {i j n m : ℕ} (b : Between s i n m) → Passed isBlank s i j → Stands s (gap (b .links)) j
@@ -74,8 +78,10 @@ module _ {s : List ℕ} where
         stands =
             subst (Stands s (gap (b .links))) (sym (e ∙ add-one j))
             (stands-on (gap (b .links)) (gap-on b p) (q .inside) (rw (q .is)));
-        link-count = b .link-count; param-count = b .param-count;
-        few-links = omega (arith, b .few-links, p .forward); few-params = omega (arith, b .few-params, p .forward)
+        link-count = b .link-count;
+        param-count = b .param-count;
+        few-links = omega (arith, b .few-links, p .forward);
+        few-params = omega (arith, b .few-params, p .forward);
       }
 
   pub no-start : {i j n m : ℕ} {x y : Bool} → Between s i n m → Passed isBlank s i j → j < length s → Looked s j 44 x → x ≡ false
@@ -132,7 +138,7 @@ module _ {s : List ℕ} where
         link-count = add-one n ∙ ap suc (b .link-count);
         param-count = kept-with w (b .links) (b .param-count);
         few-links = omega (arith, b .few-links, p .forward, link-forward w .0);
-        few-params = omega (arith, b .few-params, p .forward, link-forward w .0)
+        few-params = omega (arith, b .few-params, p .forward, link-forward w .0);
       }
     where
       there : (length s ≤ d .at .0) ⊎ At s (d .at .0) 44 → At s (d .at .0) 44

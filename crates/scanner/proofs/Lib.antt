@@ -1,7 +1,7 @@
 -- Laws of where the machine stands.
 pub mod Standing
 pub mod Targets
-pub mod Quoted
+pub mod Insides
 pub mod Params
 pub mod Links
 pub mod Headers

@@ -16,7 +16,18 @@ use Rattle.grammar.specs.Grammar.{rfc8288, At, In, Run, run-end, run-more, Targ
 use Rattle.grammar.specs.Kept.{nameOf, among, isOnce, unless, keepAfter, keptLink, Reading}
 use Rattle.grammar.specs.Records.{countParams}
 use Rattle.grammar.proofs.Machine.{
-  State, gap, target, after, semi, step, Open, next, add, settle, close, opened
+  State,
+  gap,
+  target,
+  after,
+  semi,
+  step,
+  Open,
+  next,
+  add,
+  settle,
+  close,
+  opened,
 }
 use Rattle.grammar.proofs.Raise.{map-reverseAux}
 use Rattle.kinds.specs.declared.Place.{Place}
@@ -42,7 +53,17 @@ use Rattle.scanner.specs.declared.LinkScan.{LinkScan}
 use Rattle.scanner.specs.declared.LinkScan.the-variants.{NoLink, Whole}
 use Rattle.scanner.specs.Scanned.{ParamScanned, no-param, param as a-param, TargetScan, no-target, closed}
 use Rattle.scanner.specs.Linked.{
-  Chain, no-params, one-more, Params, ParamsScanned, no-params-here, all-params, WholeLink, LinkScanned, no-link, a-link
+  Chain,
+  no-params,
+  one-more,
+  Params,
+  ParamsScanned,
+  no-params-here,
+  all-params,
+  WholeLink,
+  LinkScanned,
+  no-link,
+  a-link,
 }
 use Rattle.scanner.specs.Linked.{HeaderScanned, malformed-at, counted}
 use Rattle.scanner.proofs.Standing.{stands-on, stands-run, halts-at, halts-end, finishes}
@@ -61,6 +82,7 @@ keep-append s e (x ∷ xs) ys =
   where
     b : Bool
     b = isOnce (nameOf s x) && among e (nameOf s x)
+
     go : (b : Bool) (us vs : List Param) → unless b x (us ++ vs) ≡ unless b x us ++ vs
     go true us vs = refl
     go false us vs = refl
@@ -142,13 +164,17 @@ module _ {s : List ℕ} where
       omega (arith, chain-forward c, b .forward, w .forward, parsed-forward p .0)
 
   pub params-forward : {a j n : ℕ} → Params s a j n → (n + a ≤ j) × (j ≤ length s)
-  params-forward p =
-      (
-        omega
-        (arith, p .kept, keep-fewer s [] (reverse (p .params)), length-reverse (p .params), chain-forward (p .chain),
-        p .blanks .forward),
-        p .blanks .inside
-      )
+  params-forward p = (
+    omega (
+      arith,
+      p .kept,
+      keep-fewer s [] (reverse (p .params)),
+      length-reverse (p .params),
+      chain-forward (p .chain),
+      p .blanks .forward,
+    ),
+    p .blanks .inside,
+  )
 
   -- ---- where the machine stands behind parameters
 
@@ -198,13 +224,14 @@ module _ {s : List ℕ} where
     where
       told : b ≡ (isOnce (nameOf s (toParam r)) && among (map (nameOf s) qs) (nameOf s (toParam r)))
       told = has-told (g .seen) (nameOf s (toParam r)) c h
+
       go : ParamScanned s e (AParam r d) → Along s a (d .at .0) m y (toParam r ∷ qs)
       go (a-param p) =
           record {
             chain = one-more (g .chain) w q (subst (λ (t : ℕ). Passed isBlank s t e) (l ∙ add-one j) v) p;
             inside = parsed-forward p .1;
             kept = kept-more s (toParam r) qs (g .kept) told f;
-            seen = seen-with (g .seen) (nameOf s (toParam r)) c o
+            seen = seen-with (g .seen) (nameOf s (toParam r)) c o;
           }
 
   -- what was passed lies in the text, and the name too
@@ -227,8 +254,8 @@ module _ {s : List ℕ} where
   neither {q = q} g b h l e k f =
       no-params-here
       (λ ls c d r.
-        ready-halts (ready-blanks (chain-ready ls c d (g .1 .chain) r) (b .run)) h (b .stops h) (k .not (not-true q f) h)
-        (l .not e h))
+      ready-halts (ready-blanks (chain-ready ls c d (g .1 .chain) r) (b .run)) h (b .stops h) (k .not (not-true q f) h)
+      (l .not e h))
 
   pub param-stuck : {a i j k e n : ℕ} {x : Seen} {p : Place} {u : ParamScan} → Going s a i n x → Passed isBlank s i j → At s j 59
       → k ≡ j + 1 → Passed isBlank s k e → ParamScanned s e u → u ≡ NoParam p → ParamsScanned s a (NoLink p)
@@ -238,10 +265,10 @@ module _ {s : List ℕ} where
       go (no-param f) =
           no-params-here
           (λ ls c d r.
-            f (holding ls c d (g .0))
-            (stands-run (λ i x y. rw y) (v .run)
-            (subst (Stands s (semi (holding ls c d (g .0)))) (sym (l ∙ add-one j))
-            (ready-semi (ready-blanks (chain-ready ls c d (g .1 .chain) r) (w .run)) q))))
+          f (holding ls c d (g .0))
+          (stands-run (λ i x y. rw y) (v .run)
+          (subst (Stands s (semi (holding ls c d (g .0)))) (sym (l ∙ add-one j))
+          (ready-semi (ready-blanks (chain-ready ls c d (g .1 .chain) r) (w .run)) q))))
 
   -- ---- a link
 

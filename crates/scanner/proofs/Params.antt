@@ -15,7 +15,23 @@ use Rattle.grammar.specs.Link.{Param}
 use Rattle.grammar.specs.Grammar.{rfc8288, At, In, Run, run-end, run-more, Inside}
 use Rattle.grammar.proofs.Classes.{token-not-blank, blank-not-token, token-not-quote}
 use Rattle.grammar.proofs.Machine.{
-  State, semi, name, named, equals, bare, quote, after, step, Open, next, nameEnd, add, settle, close, flag, param
+  State,
+  semi,
+  name,
+  named,
+  equals,
+  bare,
+  quote,
+  after,
+  step,
+  Open,
+  next,
+  nameEnd,
+  add,
+  settle,
+  close,
+  flag,
+  param,
 }
 use Rattle.kinds.specs.declared.Place.{Place}
 use Rattle.kinds.specs.declared.Span.{Span}
@@ -30,12 +46,20 @@ use Rattle.scanner.specs.declared.ValueScan.the-variants.{NoValue, Value
 use Rattle.scanner.specs.declared.ParamScan.{ParamScan}
 use Rattle.scanner.specs.declared.ParamScan.the-variants.{NoParam, Param as AParam}
 use Rattle.scanner.specs.Scanned.{
-  InsideScan, no-quote, unquoted, ValueScanned, no-value, value, ParamScanned, no-param, param as a-param
+  InsideScan,
+  no-quote,
+  unquoted,
+  ValueScanned,
+  no-value,
+  value,
+  ParamScanned,
+  no-param,
+  param as a-param,
 }
 use Rattle.scanner.specs.Stands.{Stands, Halts, Ready, Clear}
 use Rattle.scanner.specs.Parsed.{ParsedValue, a-token, a-quoted, Parsed, without, with}
 use Rattle.scanner.proofs.Standing.{stands-on, stands-run, halts-at, halts-end}
-use Rattle.scanner.proofs.Quoted.{inside-stands}
+use Rattle.scanner.proofs.Insides.{inside-stands}
 
 -- a record whose parts were made of cursors
 same-param : (r : ParamRecord) {n e a b f : ℕ} → (r .name .from .0 ≡ n) × (r .name .to .0 ≡ e)
@@ -84,12 +108,14 @@ module _ {s : List ℕ} where
   token-ready {v} {j} o n e h t p =
       let (c, r) = uncons h (t .run) in
       let begun : Stands s (bare o n e v) (suc v) =
-          stands-on (bare o n e v) p (c .inside)
-          (rw (token-not-blank (getD s v 0) (c .is), token-not-quote (getD s v 0) (c .is), c .is))
+      stands-on (bare o n e v) p (c .inside)
+      (rw (token-not-blank (getD s v 0) (c .is), token-not-quote (getD s v 0) (c .is), c .is))
       in
       record {
-        state = bare o n e v; stands = stands-run (λ i x q. rw q) r begun; settles = refl;
-        steps = λ k. rw (t .stops k)
+        state = bare o n e v;
+        stands = stands-run (λ i x q. rw q) r begun;
+        settles = refl;
+        steps = λ k. rw (t .stops k);
       }
 
   value-ready : {v a b f j : ℕ} (o : Open) (n e : ℕ) → ParsedValue s v a b f j → Stands s (equals o n e) v
@@ -117,13 +143,13 @@ module _ {s : List ℕ} where
       → (st : State) × Stands s st k × (settle st k ≡ some (close (add (flag a e) o)))
       × ((e < length s → isToken (getD s e 0) ≡ false) → k < length s → step rfc8288 st k (getD s k 0) ≡ nameEnd o a e (getD s k 0))
   blanks-passed {a} {e} o run-end p = (name o a, p, refl, λ t h. rw (t h))
-  blanks-passed {a} {e} o (run-more b r) p =
-      (
-        named o a e,
-        stands-run (λ i x q. rw q) r
+  blanks-passed {a} {e} o (run-more b r) p = (
+    named o a e,
+    stands-run (λ i x q. rw q) r
         (stands-on (named o a e) p (b .inside) (rw (blank-not-token (getD s e 0) (b .is), b .is))),
-        refl, λ t h. refl
-      )
+    refl,
+    λ t h. refl,
+  )
 
   equals-reached : {a e k j v : ℕ} (o : Open) → a < e → Passed isToken s a e → Passed isBlank s e k → At s k 61 → j ≡ k + 1
       → Passed isBlank s j v → Stands s (semi o) a → Stands s (equals o a e) v
@@ -139,7 +165,10 @@ module _ {s : List ℕ} where
   flag-ready o h t b q p =
       let (st, here, settles, on) = blanks-passed o (b .run) (name-passed o h (t .run) p) in
       record {
-        state = st; stands = here; settles = settles; steps = λ k. on (t .stops) k ∙ rw (b .stops k, q k)
+        state = st;
+        stands = here;
+        settles = settles;
+        steps = λ k. on (t .stops) k ∙ rw (b .stops k, q k);
       }
 
   -- a parameter that was passed leaves its link whole

@@ -32,7 +32,7 @@ module _ {s : List ℕ} where
             ap (run rfc8288 (gap []) 0) (take-suc s i 0 h)
             ∙ run-append rfc8288 (take i s) (getD s i 0 ∷ []) (gap []) 0
             ∙ ap (λ (k : ℕ). step rfc8288 (run rfc8288 (gap []) 0 (take i s)) k (getD s i 0)) n
-            ∙ ap (λ (x : State). step rfc8288 x i (getD s i 0)) (p .is)
+            ∙ ap (λ (x : State). step rfc8288 x i (getD s i 0)) (p .is);
       }
 
   -- one octet more, which leads to a known state
@@ -55,15 +55,16 @@ module _ {s : List ℕ} where
       record {
         malformed =
             λ R f.
-              true≢false
-              (sym died
-              ∙ begins-alive rfc8288 apart8288 (take (suc i) s)
-              (record {
-                rest = drop (suc i) s; links = R;
-                derived = subst (λ (x : List ℕ). Field rfc8288 x R) (sym (take-append-drop (suc i) s)) f
-              }));
+            true≢false
+            (sym died
+            ∙ begins-alive rfc8288 apart8288 (take (suc i) s)
+            (record {
+              rest = drop (suc i) s;
+              links = R;
+              derived = subst (λ (x : List ℕ). Field rfc8288 x R) (sym (take-append-drop (suc i) s)) f;
+            }));
         place =
-            place-at rfc8288 apart8288 s i (p .inside) (ap isDead (p .is) ∙ alive) (inr died)
+            place-at rfc8288 apart8288 s i (p .inside) (ap isDead (p .is) ∙ alive) (inr died);
       }
 
   -- the header ends where it may not
@@ -77,7 +78,7 @@ module _ {s : List ℕ} where
             (ap inOrder
             (ap (λ (x : List ℕ). settle (run rfc8288 (gap []) 0 x) (length s)) (sym all)
             ∙ ap (λ (x : State). settle x (length s)) (p .is) ∙ ap (settle st) (sym w) ∙ e));
-        place = place-at rfc8288 apart8288 s i (p .inside) (ap isDead (p .is) ∙ alive) (inl w)
+        place = place-at rfc8288 apart8288 s i (p .inside) (ap isDead (p .is) ∙ alive) (inl w);
       }
 
   -- the header ends where it may

@@ -92,8 +92,10 @@ module _ {s : List ℕ} where
   pub since : {a b i : ℕ} → Passed isTarget s a b → Going s b i → Going s a i
   since p g =
       record {
-        derived = target-append (run-target (p .run)) (g .derived); forward = omega (arith, p .forward, g .forward);
-        inside = g .inside; stops = g .stops
+        derived = target-append (run-target (p .run)) (g .derived);
+        forward = omega (arith, p .forward, g .forward);
+        inside = g .inside;
+        stops = g .stops;
       }
 
   past-digits : {j : ℕ} {d : Cursor} {r : Scan} → TripleScan s j r → r ≡ Past d
@@ -115,7 +117,9 @@ module _ {s : List ℕ} where
             target-append (g .derived)
             (triple q (subst (In s isHex) n (t .1)) (subst (λ (x : ℕ). In s isHex (suc x)) n (t .2))
             (subst (λ (x : ℕ). Target s x e) (t .0 ∙ ap (λ (x : ℕ). suc (suc x)) n) (run-target (p .run))));
-        forward = omega (arith, g .forward, p .forward); inside = p .inside; stops = p .stops
+        forward = omega (arith, g .forward, p .forward);
+        inside = p .inside;
+        stops = p .stops;
       }
 
   -- the cursor behind a triple is in the text

@@ -1,7 +1,7 @@
 // A header: places parted by commas, each empty or one link.
 ghost use Rattle.scanner.specs.Linked.{HeaderScanned};
-
-use crate::{HeaderScan, LinkScan};
+use crate::HeaderScan;
+use crate::LinkScan;
 use crate::link::past_link;
 use cursor::Cursor;
 use kinds::Place;

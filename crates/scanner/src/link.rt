@@ -4,8 +4,9 @@ ghost use mathlib.Core.Bool.{cond};
 ghost use Prim.Native.Nat.{_+_, _^_, _≤_, _<_};
 ghost use lib.ListN.{length};
 ghost use Rattle.scanner.specs.Linked.{ParamsScanned, LinkScanned};
-
-use crate::{LinkScan, ParamScan, Scan};
+use crate::LinkScan;
+use crate::ParamScan;
+use crate::Scan;
 use cursor::Cursor;
 use kinds::Place;
 use names::Seen;
@@ -40,7 +41,7 @@ pub fn past_params(s: &[u8], from: Cursor) -> LinkScan
         if !i.sees(s, b';') {
             return LinkScan::NoLink(Place(i.at.0));
         }
-        match crate::past_param(s, i.past_octet(s).past_blanks(s)) {
+        match crate::param::past_param(s, i.past_octet(s).past_blanks(s)) {
             ParamScan::NoParam(p) => {
                 return LinkScan::NoLink(p);
             }
@@ -59,7 +60,7 @@ pub fn past_link(s: &[u8], from: Cursor) -> LinkScan
     requires { ⌜ from .at .0 ≤ length (now s) ⌝ }
     ensures { λ r. ⌜ LinkScanned (now (s .entry)) (from .at .0) r ⌝ }
 {
-    match crate::past_target(s, from) {
+    match crate::target::past_target(s, from) {
         Scan::Stuck(p) => LinkScan::NoLink(p),
         Scan::Past(c) => past_params(s, c.past_octet(s)),
     }

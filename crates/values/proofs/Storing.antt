@@ -1,6 +1,6 @@
 -- A loop that stores the meaning of the part from a to e into a buffer that held `old`, from slot `at` on: it stands at place k, and
 -- at slot `to` of the buffer, which holds `out`.
-use Prim.Native.Nat.{ℕ, suc, _+_, _≤_, _<_}
+use Prim.Native.Nat.{ℕ, _+_, _≤_, _<_}
 use native.Mathlib.Omega.{arith}
 use native.Mathlib.Numerals.{add-one}
 use mathlib.Core.Path.{_≡_, sym, ap, _∙_}

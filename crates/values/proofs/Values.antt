@@ -2,9 +2,8 @@
 -- is empty.
 use Prim.Native.Nat.{ℕ}
 use mathlib.Core.Path.{_≡_, refl, sym}
-use mathlib.Core.Bool.{true, false, _&&_}
+use mathlib.Core.Bool.{true, false}
 use mathlib.Core.List.{List, [], _∷_}
-use lib.Dec.{eqb}
 use lib.Seq.{slice, slice-empty}
 use Rattle.octets.specs.Sets.{all, isToken}
 use Rattle.octets.proofs.Octets.{both}

@@ -1,10 +1,10 @@
 -- Runs, one after another.
 use Prim.Native.Nat.{ℕ}
-use mathlib.Core.Path.{_≡_, refl, sym, ap, _∙_}
+use mathlib.Core.Path.{_≡_, refl}
 use mathlib.Core.Bool.{Bool, true, false}
 use mathlib.Core.List.{List, [], _∷_}
 use lib.Dec.{eqb}
-use Rattle.tables.specs.Relation.{lengthen, splitAt, pieces, nonEmpty, runs}
+use Rattle.tables.specs.Relation.{splitAt, pieces, nonEmpty, runs}
 use Rattle.values.specs.Runs.{word, after, Begins, begins}
 
 -- the first piece is the first word, and the runs of the other pieces are those of what is left behind it

@@ -4,7 +4,15 @@ use native.Mathlib.Omega.{arith}
 use lib.ListN.{length}
 use borrow.Author.Needs.{needs}
 use Rattle.reader.proofs.Whole.{
-  Filling, filling-start, filling-lengths, links-few, filled-at-end, comma-on, before-link, filled-behind, link-on
+  Filling,
+  filling-start,
+  filling-lengths,
+  links-few,
+  filled-at-end,
+  comma-on,
+  before-link,
+  filled-behind,
+  link-on,
 }
 use Rattle.reader.proofs.Whole.{behind-inside, lengths-kept}
 use Rattle.reader.proofs.fill.fill.Statement.{statement}
@@ -75,10 +83,15 @@ past-octet-requires-3 c κs = search needs
 
 loop-less-2 : tie.Need-loop-less-2 Inv-loop μ-loop
 loop-less-2 c =
-    omega
-    (arith, (c .past-octet3 .ensures), (c .before .before .before .before .before .before .before .before .before .before .before .before .before .before .before .before .past-blanks .ensures .forward), (c .before .before .before .before .before .before .before .before .before .before .before .past-octet2 .ensures), (c .before .if3 .left),
-    behind-inside (c .before .before .before .before .before .before .before .before .before .before .before .before .before .before .before .before .before .before .before .before .before .before .pre) (c .before .before .before .before .before .before .before .before .before .before .before .before .before .before .before .before .before .loop .inv) (c .before .before .before .before .before .before .before .before .before .before .before .before .before .before .before .before .past-blanks .ensures) (c .before .before .before .before .before .before .before .before .before .before .before .before .before .before .if1 .left) ((c .before .before .before .before .before .before .before .before .before .before .before .before .before .sees .ensures .not) (c .before .before .before .before .before .before .before .before .before .before .before .before .if2 .left) (c .before .before .before .before .before .before .before .before .before .before .before .before .before .before .if1 .left)) (c .before .before .before .before .before .before .before .before .before .before .before .past-octet2 .ensures)
-    (c .before .before .before .before .before .before .before .before .fill-link .ensures) .0)
+    omega (
+      arith,
+      (c .past-octet3 .ensures),
+      (c .before .before .before .before .before .before .before .before .before .before .before .before .before .before .before .before .past-blanks .ensures .forward),
+      (c .before .before .before .before .before .before .before .before .before .before .before .past-octet2 .ensures),
+      (c .before .if3 .left),
+      behind-inside (c .before .before .before .before .before .before .before .before .before .before .before .before .before .before .before .before .before .before .before .before .before .before .pre) (c .before .before .before .before .before .before .before .before .before .before .before .before .before .before .before .before .before .loop .inv) (c .before .before .before .before .before .before .before .before .before .before .before .before .before .before .before .before .past-blanks .ensures) (c .before .before .before .before .before .before .before .before .before .before .before .before .before .before .if1 .left) ((c .before .before .before .before .before .before .before .before .before .before .before .before .before .sees .ensures .not) (c .before .before .before .before .before .before .before .before .before .before .before .before .if2 .left) (c .before .before .before .before .before .before .before .before .before .before .before .before .before .before .if1 .left)) (c .before .before .before .before .before .before .before .before .before .before .before .past-octet2 .ensures)
+          (c .before .before .before .before .before .before .before .before .fill-link .ensures) .0,
+    )
 
 loop-again-2 : tie.Need-loop-again-2 Inv-loop μ-loop
 loop-again-2 c =

@@ -72,10 +72,15 @@ with-requires c κs = search needs
 
 loop-less : tie.Need-loop-less Inv-loop μ-loop
 loop-less c =
-    omega
-    (arith, param-inside (c .before .before .before .before .before .before .before .before .before .before .past-param .ensures) (c .before .before .before .before .before .before .before .before .r .given .1) .0, param-inside (c .before .before .before .before .before .before .before .before .before .before .past-param .ensures) (c .before .before .before .before .before .before .before .before .r .given .1) .1,
-    (c .before .before .before .before .before .before .before .before .before .before .before .before .before .before .before .past-blanks .ensures .forward), (c .before .before .before .before .before .before .before .before .before .before .before .before .past-octet .ensures), (c .before .before .before .before .before .before .before .before .before .before .before .past-blanks2 .ensures .forward),
-    ((c .before .before .before .before .before .before .before .before .before .before .before .before .before .before .sees .ensures .yes) (not-false (c .before .before .before .before .before .before .before .before .before .before .before .before .before .before .sees .result) (c .before .before .before .before .before .before .before .before .before .before .before .before .before .if1 .left))) .inside)
+    omega (
+      arith,
+      param-inside (c .before .before .before .before .before .before .before .before .before .before .past-param .ensures) (c .before .before .before .before .before .before .before .before .r .given .1) .0,
+      param-inside (c .before .before .before .before .before .before .before .before .before .before .past-param .ensures) (c .before .before .before .before .before .before .before .before .r .given .1) .1,
+      (c .before .before .before .before .before .before .before .before .before .before .before .before .before .before .before .past-blanks .ensures .forward),
+      (c .before .before .before .before .before .before .before .before .before .before .before .before .past-octet .ensures),
+      (c .before .before .before .before .before .before .before .before .before .before .before .past-blanks2 .ensures .forward),
+      ((c .before .before .before .before .before .before .before .before .before .before .before .before .before .before .sees .ensures .yes) (not-false (c .before .before .before .before .before .before .before .before .before .before .before .before .before .before .sees .result) (c .before .before .before .before .before .before .before .before .before .before .before .before .before .if1 .left))) .inside,
+    )
 
 loop-again : tie.Need-loop-again Inv-loop μ-loop
 loop-again c =

@@ -66,9 +66,15 @@ add-links c = omega (arith, (c .before .before .before .before .before .before .
 
 add-params : tie.Need-add-params Inv-loop μ-loop
 add-params c =
-    omega
-    (arith, (c .before .before .before .before .before .before .before .before .before .before .before .before .loop .inv .few-params), (c .before .before .before .before .before .before .before .before .before .before .before .past-blanks .ensures .forward), (c .before .before .before .before .past-octet2 .ensures),
-    whole-forward (c .before .before .before .past-link .ensures) (c .before .d .given .1) .0, whole-forward (c .before .before .before .past-link .ensures) (c .before .d .given .1) .1, (c .before .before .before .before .before .before .before .before .before .before .before .before .before .before .before .good .0 .0))
+    omega (
+      arith,
+      (c .before .before .before .before .before .before .before .before .before .before .before .before .loop .inv .few-params),
+      (c .before .before .before .before .before .before .before .before .before .before .before .past-blanks .ensures .forward),
+      (c .before .before .before .before .past-octet2 .ensures),
+      whole-forward (c .before .before .before .past-link .ensures) (c .before .d .given .1) .0,
+      whole-forward (c .before .before .before .past-link .ensures) (c .before .d .given .1) .1,
+      (c .before .before .before .before .before .before .before .before .before .before .before .before .before .before .before .good .0 .0),
+    )
 
 returns-4 : tie.Need-returns-4 Inv-loop μ-loop
 returns-4 c =
@@ -80,9 +86,14 @@ past-octet-requires-3 c κs = search needs
 
 loop-less-2 : tie.Need-loop-less-2 Inv-loop μ-loop
 loop-less-2 c =
-    omega
-    (arith, (c .past-octet3 .ensures), (c .before .before .before .before .before .before .before .before .before .before .before .before .before .before .past-blanks .ensures .forward), (c .before .before .before .before .before .before .before .past-octet2 .ensures),
-    whole-forward (c .before .before .before .before .before .before .past-link .ensures) (c .before .before .before .before .d .given .1) .0, (c .before .if4 .left))
+    omega (
+      arith,
+      (c .past-octet3 .ensures),
+      (c .before .before .before .before .before .before .before .before .before .before .before .before .before .before .past-blanks .ensures .forward),
+      (c .before .before .before .before .before .before .before .past-octet2 .ensures),
+      whole-forward (c .before .before .before .before .before .before .past-link .ensures) (c .before .before .before .before .d .given .1) .0,
+      (c .before .if4 .left),
+    )
 
 loop-again-2 : tie.Need-loop-again-2 Inv-loop μ-loop
 loop-again-2 c =

@@ -75,14 +75,22 @@ with-requires c κs = search needs
 
 loop-less : tie.Need-loop-less Inv-loop μ-loop
 loop-less c =
-    omega
-    (arith, param-inside (c .before .before .before .before .before .before .before .past-param .ensures) (c .before .before .before .before .before .r .given .1) .0, param-inside (c .before .before .before .before .before .before .before .past-param .ensures) (c .before .before .before .before .before .r .given .1) .1,
-    (c .before .before .before .before .before .before .before .before .before .before .before .before .before .before .before .before .past-blanks .ensures .forward), (c .before .before .before .before .before .before .before .before .before .past-octet .ensures), (c .before .before .before .before .before .before .before .before .past-blanks2 .ensures .forward), (c .before .before .before .before .before .before .before .before .before .before .before .before .before .before .if1 .left))
+    omega (
+      arith,
+      param-inside (c .before .before .before .before .before .before .before .past-param .ensures) (c .before .before .before .before .before .r .given .1) .0,
+      param-inside (c .before .before .before .before .before .before .before .past-param .ensures) (c .before .before .before .before .before .r .given .1) .1,
+      (c .before .before .before .before .before .before .before .before .before .before .before .before .before .before .before .before .past-blanks .ensures .forward),
+      (c .before .before .before .before .before .before .before .before .before .past-octet .ensures),
+      (c .before .before .before .before .before .before .before .before .past-blanks2 .ensures .forward),
+      (c .before .before .before .before .before .before .before .before .before .before .before .before .before .before .if1 .left),
+    )
 
 loop-again : tie.Need-loop-again Inv-loop μ-loop
-loop-again c =
-    (_, on (c .before .before .before .before .before .before .before .before .before .before .before .before .before .before .before .before .before .loop .inv .1) (c .before .before .before .before .before .before .before .before .before .before .before .before .before .before .before .before .past-blanks .ensures) ((c .before .before .before .before .before .before .before .before .before .before .before .sees2 .ensures .yes) (not-false (c .before .before .before .before .before .before .before .before .before .before .before .sees2 .result) (c .before .before .before .before .before .before .before .before .before .before .if3 .left))) (c .before .before .before .before .before .before .before .before .before .past-octet .ensures)
-    (c .before .before .before .before .before .before .before .before .past-blanks2 .ensures) (c .before .before .before .before .before .before .before .past-param .ensures) (c .before .before .before .before .before .r .given .1) (c .before .before .before .code .ensures) (c .before .before .has .ensures) (c .before .counted .ensures) (c .with .ensures))
+loop-again c = (
+  _,
+  on (c .before .before .before .before .before .before .before .before .before .before .before .before .before .before .before .before .before .loop .inv .1) (c .before .before .before .before .before .before .before .before .before .before .before .before .before .before .before .before .past-blanks .ensures) ((c .before .before .before .before .before .before .before .before .before .before .before .sees2 .ensures .yes) (not-false (c .before .before .before .before .before .before .before .before .before .before .before .sees2 .result) (c .before .before .before .before .before .before .before .before .before .before .if3 .left))) (c .before .before .before .before .before .before .before .before .before .past-octet .ensures)
+      (c .before .before .before .before .before .before .before .before .past-blanks2 .ensures) (c .before .before .before .before .before .before .before .past-param .ensures) (c .before .before .before .before .before .r .given .1) (c .before .before .before .code .ensures) (c .before .before .has .ensures) (c .before .counted .ensures) (c .with .ensures),
+)
 
 pub past-params-spec : {M : Type 1} → statement M
 past-params-spec =

@@ -3,7 +3,6 @@ use Prim.Native.Nat.{_+_, _-_, _≤_}
 use native.Mathlib.Omega.{arith}
 use mathlib.Core.Path.{_≡_, ap}
 use lib.ListN.{length}
-use borrow.Author.Needs.{needs}
 use Rattle.values.specs.Rest.{rest}
 use Rattle.values.proofs.Meant.{none-left, length-step, length-none}
 use Rattle.values.proofs.meaning.meaning_len.Statement.{statement}

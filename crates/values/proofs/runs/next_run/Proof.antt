@@ -25,7 +25,9 @@ shared-slice-read-if2 : tie.Need-shared-slice-read-if2 Inv-loop μ-loop
 shared-slice-read-if2 c = omega arith
 
 returns-2 : tie.Need-returns-2 Inv-loop μ-loop
-returns-2 c = skip-stop (c .before .before .before .before .before .loop .inv) (c .before .before .before .meant-at .ensures) (c .before .before .if1 .left) (c .if2 .taken)
+returns-2 c =
+    skip-stop (c .before .before .before .before .before .loop .inv) (c .before .before .before .meant-at .ensures)
+    (c .before .before .if1 .left) (c .if2 .taken)
 
 add-k : tie.Need-add-k Inv-loop μ-loop
 add-k c = omega arith
@@ -34,7 +36,9 @@ loop-less : tie.Need-loop-less Inv-loop μ-loop
 loop-less c = omega arith
 
 loop-again : tie.Need-loop-again Inv-loop μ-loop
-loop-again c = skip (c .before .before .before .before .before .loop .inv) (c .before .before .before .meant-at .ensures) (c .before .before .if1 .left) (c .if2 .left)
+loop-again c =
+    skip (c .before .before .before .before .before .loop .inv) (c .before .before .before .meant-at .ensures)
+    (c .before .before .if1 .left) (c .if2 .left)
 
 returns-3 : tie.Need-returns-3 Inv-loop μ-loop
 returns-3 c = skipped (c .before .loop .inv) (c .loop-test .left)

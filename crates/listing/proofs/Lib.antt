@@ -1,0 +1,2 @@
+-- What the proofs of the crate `listing` rest on.
+pub mod Links

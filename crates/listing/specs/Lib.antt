@@ -1,0 +1,2 @@
+-- What the crate `listing` means by its words.
+pub mod Held

@@ -1,0 +1,83 @@
+-- The part of the text is the one that the answer names, and a refusal is no octet of the base.
+use mathlib.Core.Path.{refl}
+use Rattle.lookup.proofs.Anchored.{part, within, text-part, base-part}
+use borrow.Author.Needs.{needs}
+use Rattle.lookup.proofs.context.Statement.{statement}
+use Rattle.lookup.proofs.context.Tie as tie
+
+context-of-requires : tie.Need-context-of-requires
+context-of-requires c κs = search needs
+
+enum-known-answer : tie.Need-enum-known-answer
+enum-known-answer c = search needs
+
+sub-result : tie.Need-sub-result
+sub-result c = within (c .before .before .before .context-of .ensures) (c .before .answer .given .1) .ordered
+
+part-result-start : tie.Need-part-result-start
+part-result-start c = within (c .before .before .before .context-of .ensures) (c .before .answer .given .1) .ordered
+
+part-result-end : tie.Need-part-result-end
+part-result-end c = within (c .before .before .before .context-of .ensures) (c .before .answer .given .1) .inside
+
+enum-told : tie.Need-enum-told
+enum-told c = search needs
+
+enum-told-2 : tie.Need-enum-told-2
+enum-told-2 c = search needs
+
+slice-aggregate-result : tie.Need-slice-aggregate-result
+slice-aggregate-result c = search needs
+
+enum-told-3 : tie.Need-enum-told-3
+enum-told-3 c = search needs
+
+slice-aggregate-result-2 : tie.Need-slice-aggregate-result-2
+slice-aggregate-result-2 c = search needs
+
+enum-told-4 : tie.Need-enum-told-4
+enum-told-4 c = search needs
+
+slice-aggregate-result-3 : tie.Need-slice-aggregate-result-3
+slice-aggregate-result-3 c = search needs
+
+returns : tie.Need-returns
+returns c =
+    text-part (c .before .before .before .before .context-of .ensures) (c .before .before .answer .given .1)
+    (c .before .before .before .before .before .before .before .before .before .args .base .now)
+
+returns-2 : tie.Need-returns-2
+returns-2 c =
+    base-part (c .before .before .context-of .ensures) (c .enum-told .given .1)
+    (c .before .before .before .before .before .before .before .args .base .now)
+
+returns-3 : tie.Need-returns-3
+returns-3 c = part (c .before .before .before .context-of .ensures) (c .before .enum-told2 .given .1) _ refl
+
+returns-4 : tie.Need-returns-4
+returns-4 c = part (c .before .before .before .context-of .ensures) (c .before .enum-told3 .given .1) _ refl
+
+returns-5 : tie.Need-returns-5
+returns-5 c = part (c .before .before .before .context-of .ensures) (c .before .enum-told4 .given .1) _ refl
+
+pub context-spec : {M : Type 1} → statement M
+context-spec =
+    tie.close
+    (tie.spec
+    context-of-requires
+    enum-known-answer
+    sub-result
+    part-result-start
+    part-result-end
+    enum-told
+    enum-told-2
+    slice-aggregate-result
+    enum-told-3
+    slice-aggregate-result-2
+    enum-told-4
+    slice-aggregate-result-3
+    returns
+    returns-2
+    returns-3
+    returns-4
+    returns-5)
