@@ -1,14 +1,14 @@
-//! A reference for the Link field contract (`01-scope.md`, called 01 below).
+//! A reference for the rules of the Link field (`docs/TRACEABILITY.md` lists them).
 //!
 //! It answers the same questions as the product and is written in another
 //! way: the grammar is a value (`grammar`), what it derives is asked by sets
 //! of places (`sets`), the malformed place by the cuts that can still be
 //! completed (`prefix`), and the records come from a derivation found so
-//! (`derivation`, `reading`). All else follows 01's definitions word by
+//! (`derivation`, `reading`). All else follows the rules word by
 //! word. Clarity comes before speed.
 //!
 //! Tables are lent as slots of plain numbers, and every answer begins with
-//! one of 01's numbers ([`number`]).
+//! one of the rules' numbers ([`number`]).
 
 mod context;
 mod derivation;
@@ -27,6 +27,7 @@ mod search;
 mod sets;
 mod table;
 mod value;
+mod vectors;
 mod write;
 
 pub use context::context;
@@ -36,4 +37,5 @@ pub use read::{read, ReadAnswer};
 pub use search::search;
 pub use table::good;
 pub use value::value;
+pub use vectors::vectors;
 pub use write::write;

@@ -1,20 +1,28 @@
 //! What the listing program prints.
 
 use crate::number::DONE;
-use crate::read::read;
+use crate::read::{read, ReadAnswer};
 
-const LINK_ROOM: usize = 256;
-const PARAM_ROOM: usize = 1024;
+pub const LINK_ROOM: usize = 256;
+pub const PARAM_ROOM: usize = 1024;
 
 /// The lines listed for what standard input holds: a field value, and one
 /// final LF, if there, that doesn't belong to it.
 pub fn listing(input: &[u8]) -> String {
     let header = input.strip_suffix(b"\n").unwrap_or(input);
-    let mut link_slots = [0; LINK_ROOM * 4];
-    let mut param_slots = [0; PARAM_ROOM * 5];
-    let answer = read(header, &mut link_slots, &mut param_slots);
+    let (lines, _) = listed(header, &mut [0; LINK_ROOM * 4], &mut [0; PARAM_ROOM * 5]);
+    lines
+}
+
+/// Reads the header into the lent slots: the lines listed, and the answer.
+pub fn listed(
+    header: &[u8],
+    link_slots: &mut [usize],
+    param_slots: &mut [usize],
+) -> (String, ReadAnswer) {
+    let answer = read(header, link_slots, param_slots);
     if answer.number != DONE {
-        return line("refused", &[answer.number, answer.place]);
+        return (line("refused", &[answer.number, answer.place]), answer);
     }
     let mut lines = line("links", &[answer.links, answer.params]);
     let mut params = param_slots.as_chunks::<5>().0.iter().enumerate();
@@ -26,7 +34,7 @@ pub fn listing(input: &[u8]) -> String {
             lines += &line("param", &[&[param], &record[..]].concat());
         }
     }
-    lines
+    (lines, answer)
 }
 
 /// A word and numbers, tab-parted and LF-ended.

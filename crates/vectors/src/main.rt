@@ -1,0 +1,104 @@
+// Lists the headers on standard input, one a line, and headers at the edges of lengths and rooms. The name of a case stands
+// before its listing, behind `#`.
+ghost use mathlib.Core.Path.{_≡_};
+ghost use Prim.Native.Nat.{_<_, _≤_};
+ghost use lib.ListN.{length};
+
+// A header that is its own name.
+fn list_header(header: &[u8]) {
+    io::write_all(1, b"# ");
+    io::write_all(1, header);
+    io::write_all(1, b"\n");
+    let mut links = [0usize; 1024];
+    let mut params = [0usize; 5120];
+    listing::list(header, &mut links, &mut params);
+}
+
+// Where the line that begins at `from` ends.
+fn line_end(s: &[u8], from: usize) -> usize
+    requires { ⌜ from ≤ length (now s) ⌝ }
+    ensures { λ r. ⌜ (from ≤ r) × (r ≤ length (now (s .entry))) ⌝ }
+{
+    let mut i = from;
+    while i < s.len() && s[i] != b'\n' {
+        i += 1;
+    }
+    i
+}
+
+fn list_lines(s: &[u8]) {
+    let mut at = 0;
+    while at < s.len() {
+        let end = line_end(s, at);
+        list_header(&s[at..end]);
+        if end == s.len() {
+            return;
+        }
+        at = end + 1;
+    }
+}
+
+// A header of the length that is lent: `<`, a run of `a`, and the last octet.
+fn list_long(header: &mut [u8], last: u8)
+    requires { ⌜ 0 < length (now header) ⌝ }
+{
+    let n = header.len();
+    io::write_all(1, b"# octets ");
+    io::print_decimal(1, n as u64);
+    io::write_all(1, b" ");
+    io::write_all(1, &[last]);
+    io::write_all(1, b"\n");
+    header[0] = b'<';
+    header[n - 1] = last;
+    let mut links = [0usize; 4];
+    listing::list(header, &mut links, &mut []);
+}
+
+fn run_of_a() -> [u8; 8193]
+    ensures { λ r. ⌜ 8193 ≡ length r ⌝ }
+{
+    [b'a'; 8193]
+}
+
+fn list_length(n: usize, last: u8)
+    requires { ⌜ (0 < n) × (n ≤ 8193) ⌝ }
+{
+    let mut header = run_of_a();
+    list_long(&mut header[..n], last);
+}
+
+// A header of two links and three parameters, in as many slots.
+fn list_room(link_slots: usize, param_slots: usize)
+    requires { ⌜ («link_slots» ≤ 11) × («param_slots» ≤ 19) ⌝ }
+{
+    io::write_all(1, b"# slots ");
+    io::print_decimal(1, link_slots as u64);
+    io::write_all(1, b" ");
+    io::print_decimal(1, param_slots as u64);
+    io::write_all(1, b"\n");
+    let mut links = [0usize; 11];
+    let mut params = [0usize; 19];
+    listing::list(
+        b"<a>;x;y,<b>;z",
+        &mut links[..link_slots],
+        &mut params[..param_slots],
+    );
+}
+
+fn main() {
+    let mut input = io::large_buffer();
+    let n = io::read_full(0, &mut input);
+    list_lines(&input[..n]);
+    list_length(8191, b'>');
+    list_length(8192, b'>');
+    list_length(8193, b'>');
+    list_length(8191, b'a');
+    list_length(8192, b'a');
+    list_length(8193, b'a');
+    list_room(8, 15);
+    list_room(11, 19);
+    list_room(7, 15);
+    list_room(8, 14);
+    list_room(7, 14);
+    list_room(0, 0);
+}
