@@ -5,7 +5,7 @@ use crate::number::{DONE, NO_SUCH_LINK};
 use crate::table::asked_links;
 
 const REFUSED: usize = 0;
-const TEXT: usize = 1;
+pub const TEXT: usize = 1;
 const BASE: usize = 2;
 
 /// The number; what the context is a part of (1 the text, 2 the base, 0 if

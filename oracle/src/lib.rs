@@ -1,14 +1,14 @@
-//! A reference for the rules of the Link field (`docs/TRACEABILITY.md` lists them).
+//! A reference for the Link field contract (`01-scope.md`, called 01 below).
 //!
 //! It answers the same questions as the product and is written in another
 //! way: the grammar is a value (`grammar`), what it derives is asked by sets
 //! of places (`sets`), the malformed place by the cuts that can still be
 //! completed (`prefix`), and the records come from a derivation found so
-//! (`derivation`, `reading`). All else follows the rules word by
+//! (`derivation`, `reading`). All else follows 01's definitions word by
 //! word. Clarity comes before speed.
 //!
 //! Tables are lent as slots of plain numbers, and every answer begins with
-//! one of the rules' numbers ([`number`]).
+//! one of 01's numbers ([`number`]).
 
 mod context;
 mod derivation;

@@ -38,7 +38,7 @@ pub fn listed(
 }
 
 /// A word and numbers, tab-parted and LF-ended.
-fn line(word: &str, numbers: &[usize]) -> String {
+pub fn line(word: &str, numbers: &[usize]) -> String {
     let numbers: String = numbers.iter().map(|number| format!("\t{number}")).collect();
     format!("{word}{numbers}\n")
 }

@@ -1,4 +1,4 @@
-//! The numbers that entries answer, and the length limit.
+//! 01's numbers, and its length limit.
 
 /// Done.
 pub const DONE: usize = 0;

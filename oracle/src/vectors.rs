@@ -1,18 +1,21 @@
-//! What the program `vectors` prints: named cases and their listings.
+//! What the program `vectors` prints: named cases, their listings, and what
+//! is asked of the tables.
 
-use crate::listing::{listed, LINK_ROOM, PARAM_ROOM};
+use crate::context::{context, TEXT};
+use crate::listing::{line, listed, LINK_ROOM, PARAM_ROOM};
+use crate::number::DONE;
+use crate::read::ReadAnswer;
+use crate::search::search;
+use crate::value::value;
 
-const LENGTHS: [(usize, u8); 6] = [
-    (8191, b'>'),
-    (8192, b'>'),
-    (8193, b'>'),
-    (8191, b'a'),
-    (8192, b'a'),
-    (8193, b'a'),
-];
+const LENGTHS: [usize; 3] = [8191, 8192, 8193];
 /// It has two links and three parameters.
 const ROOMY: &[u8] = b"<a>;x;y,<b>;z";
 const ROOMS: [(usize, usize); 6] = [(8, 15), (11, 19), (7, 15), (8, 14), (7, 14), (0, 0)];
+
+const RELATION: &[u8] = b"next";
+const BASE: &[u8] = b"BASE";
+const VALUE_ROOM: usize = 32;
 
 /// The cases of the headers in the input, one a line, and those at the edges
 /// of lengths and rooms.
@@ -20,26 +23,81 @@ pub fn vectors(input: &[u8]) -> Vec<u8> {
     let mut out = vec![];
     for line in input.split_inclusive(|&octet| octet == b'\n') {
         let header = line.strip_suffix(b"\n").unwrap_or(line);
-        put_case(&mut out, header, header, LINK_ROOM * 4, PARAM_ROOM * 5);
+        let mut link_slots = [0; LINK_ROOM * 4];
+        let mut param_slots = [0; PARAM_ROOM * 5];
+        let answer = put_case(&mut out, header, header, &mut link_slots, &mut param_slots);
+        if answer.number == DONE {
+            put_asked(&mut out, header, &link_slots, &param_slots, answer);
+        }
     }
-    for (length, last) in LENGTHS {
+    for length in LENGTHS {
         let mut header = vec![b'a'; length];
         header[0] = b'<';
-        header[length - 1] = last;
-        let name = format!("octets {length} {}", char::from(last));
-        put_case(&mut out, name.as_bytes(), &header, 4, 0);
+        header[length - 1] = b'>';
+        let name = format!("octets {length}");
+        put_case(&mut out, name.as_bytes(), &header, &mut [0; 4], &mut []);
     }
-    for (link_slots, param_slots) in ROOMS {
-        let name = format!("slots {link_slots} {param_slots}");
-        put_case(&mut out, name.as_bytes(), ROOMY, link_slots, param_slots);
+    for (links, params) in ROOMS {
+        let name = format!("slots {links} {params}");
+        let (mut link_slots, mut param_slots) = (vec![0; links], vec![0; params]);
+        put_case(
+            &mut out,
+            name.as_bytes(),
+            ROOMY,
+            &mut link_slots,
+            &mut param_slots,
+        );
     }
     out
 }
 
-/// The name of the case behind `#`, and the listing of the header in so many
-/// slots.
-fn put_case(out: &mut Vec<u8>, name: &[u8], header: &[u8], link_slots: usize, param_slots: usize) {
+/// The name of the case behind `#`, and the listing of the header.
+fn put_case(
+    out: &mut Vec<u8>,
+    name: &[u8],
+    header: &[u8],
+    link_slots: &mut [usize],
+    param_slots: &mut [usize],
+) -> ReadAnswer {
     out.extend_from_slice(&[b"# ", name, b"\n"].concat());
-    let (lines, _) = listed(header, &mut vec![0; link_slots], &mut vec![0; param_slots]);
+    let (lines, answer) = listed(header, link_slots, param_slots);
     out.extend_from_slice(lines.as_bytes());
+    answer
+}
+
+/// The link that has the relation, the first link's context, and the value of
+/// its first parameter.
+fn put_asked(
+    out: &mut Vec<u8>,
+    text: &[u8],
+    link_slots: &[usize],
+    param_slots: &[usize],
+    ReadAnswer { links, params, .. }: ReadAnswer,
+) {
+    let (number, link) = search(text, link_slots, param_slots, links, params, RELATION);
+    out.extend_from_slice(line("search", &[number, link]).as_bytes());
+
+    let (number, part_of, start, end) =
+        context(text, BASE, link_slots, param_slots, links, params, 0);
+    let whole = if part_of == TEXT { text } else { BASE };
+    put_octets(out, "context", number, &whole[start..end]);
+
+    let mut room = [0; VALUE_ROOM];
+    let (number, length) = value(
+        text,
+        link_slots,
+        param_slots,
+        links,
+        params,
+        0,
+        0,
+        &mut room,
+    );
+    put_octets(out, "value", number, &room[..length]);
+}
+
+/// A word, a number, and octets behind their length.
+fn put_octets(out: &mut Vec<u8>, word: &str, number: usize, octets: &[u8]) {
+    let start = format!("{word}\t{number}\t{}\t", octets.len());
+    out.extend_from_slice(&[start.as_bytes(), octets, b"\n"].concat());
 }

@@ -9,12 +9,12 @@ use kinds::ParamRecord;
 use reader::ReadAnswer;
 
 // One more number of a line.
-fn put_number(n: usize) {
+pub fn put_number(n: usize) {
     io::write_all(1, b"\t");
     io::print_decimal(1, n as u64);
 }
 
-fn end_line() {
+pub fn end_line() {
     io::write_all(1, b"\n");
 }
 
@@ -79,13 +79,15 @@ fn put_refusal(number: usize, place: usize) {
     end_line();
 }
 
-// Reads the header into the lent tables, and lists the answer.
-pub fn list(header: &[u8], links: &mut [usize], params: &mut [usize]) {
-    match reader::read(header, links, params) {
+// Reads the header into the lent tables, lists the answer, and hands it on.
+pub fn list(header: &[u8], links: &mut [usize], params: &mut [usize]) -> ReadAnswer {
+    let answer = reader::read(header, links, params);
+    match answer {
         ReadAnswer::Done(n, m) => put_table(links, params, n, m),
         ReadAnswer::TooLong => put_refusal(1, 0),
         ReadAnswer::Malformed(p) => put_refusal(2, p.0),
         ReadAnswer::NoLinkRoom => put_refusal(3, 0),
         ReadAnswer::NoParamRoom => put_refusal(4, 0),
     }
+    answer
 }

@@ -47,7 +47,3 @@ module _ (t : Table) (base : List ℕ) (i : ℕ) where
   -- the entry that hands back the part answers these octets
   abbrev pub ContextPart : List ℕ → Type 0
   ContextPart r = (o : ContextOut) × Context o × (r ≡ handed (t .text) base o)
-
-  -- the second entry, on the same inputs, answers this number
-  abbrev pub ContextNumber : ℕ → Type 0
-  ContextNumber n = (o : ContextOut) × Context o × (n ≡ o .number)

@@ -20,25 +20,25 @@ use scanner::Scan;
 // The cursor behind a link's parameters, and the number of the next parameter.
 pub struct Next {
     pub at: Cursor,
-    pub next: usize,
+    pub next: ParamNumber,
 }
 
 // Writes the record at number m, unless its name stood before, and answers the next number.
-fn keep(params: &mut [usize], m: usize, r: ParamRecord, again: bool) -> usize
-    requires { ⌜ (again ≡ false → 5 * m + 5 ≤ length (now params)) ⌝ }
-    ensures { λ n. ⌜ (n ≡ m + cond again 0 1) × (now (params .exit) ≡ cond again (now (params .entry)) (over (now (params .entry)) (5 * m) (paramNumbers r))) ⌝ }
+fn keep(params: &mut [usize], m: ParamNumber, r: ParamRecord, again: bool) -> ParamNumber
+    requires { ⌜ (again ≡ false → 5 * m .0 + 5 ≤ length (now params)) ⌝ }
+    ensures { λ n. ⌜ (n .0 ≡ m .0 + cond again 0 1) × (now (params .exit) ≡ cond again (now (params .entry)) (over (now (params .entry)) (5 * m .0) (paramNumbers r))) ⌝ }
 {
     if again {
         return m;
     }
-    kinds::put_param(params, ParamNumber(m), r);
-    m + 1
+    kinds::put_param(params, m, r);
+    ParamNumber(m.0 + 1)
 }
 
 // Writes the records of a link's kept parameters, from number m on.
-fn fill_params(s: &[u8], from: Cursor, params: &mut [usize], m: usize) -> Next
-    requires { ⌜ BeforeParams (now s) (now params) (from .at .0) m ⌝ }
-    ensures { λ r. ⌜ ParamsFilled (now (s .entry)) (from .at .0) (r .at .at .0) m (r .next) (now (params .entry)) (now (params .exit)) ⌝ }
+fn fill_params(s: &[u8], from: Cursor, params: &mut [usize], m: ParamNumber) -> Next
+    requires { ⌜ BeforeParams (now s) (now params) (from .at .0) (m .0) ⌝ }
+    ensures { λ r. ⌜ ParamsFilled (now (s .entry)) (from .at .0) (r .at .at .0) (m .0) (r .next .0) (now (params .entry)) (now (params .exit)) ⌝ }
 {
     let mut c = from;
     let mut n = m;
@@ -67,12 +67,12 @@ fn fill_link(
     s: &[u8],
     from: Cursor,
     links: &mut [usize],
-    n: usize,
+    n: LinkNumber,
     params: &mut [usize],
-    m: usize,
+    m: ParamNumber,
 ) -> Next
-    requires { ⌜ BeforeLink (now s) (now links) (now params) (from .at .0) n m ⌝ }
-    ensures { λ r. ⌜ LinkFilled (now (s .entry)) (from .at .0) (r .at .at .0) n m (r .next) (now (links .entry)) (now (links .exit)) (now (params .entry)) (now (params .exit)) ⌝ }
+    requires { ⌜ BeforeLink (now s) (now links) (now params) (from .at .0) (n .0) (m .0) ⌝ }
+    ensures { λ r. ⌜ LinkFilled (now (s .entry)) (from .at .0) (r .at .at .0) (n .0) (m .0) (r .next .0) (now (links .entry)) (now (links .exit)) (now (params .entry)) (now (params .exit)) ⌝ }
 {
     match scanner::target::past_target(s, from) {
         Scan::Stuck(_p) => Next { at: from, next: m },
@@ -83,10 +83,10 @@ fn fill_link(
                     from: Place(from.at.0),
                     to: Place(t.at.0),
                 },
-                first: ParamNumber(m),
-                count: f.next - m,
+                first: m,
+                count: f.next.0 - m.0,
             };
-            kinds::put_link(links, LinkNumber(n), r);
+            kinds::put_link(links, n, r);
             f
         }
     }
@@ -98,8 +98,8 @@ pub fn fill(s: &[u8], links: &mut [usize], params: &mut [usize])
     ensures { λ _. ⌜ Filled (now (s .entry)) (now (links .entry)) (now (links .exit)) (now (params .entry)) (now (params .exit)) ⌝ }
 {
     let mut c = Cursor::start();
-    let mut n: usize = 0;
-    let mut m: usize = 0;
+    let mut n = LinkNumber(0);
+    let mut m = ParamNumber(0);
     loop {
         let i = c.past_blanks(s);
         if i.at.0 >= s.len() {
@@ -110,7 +110,7 @@ pub fn fill(s: &[u8], links: &mut [usize], params: &mut [usize])
             continue;
         }
         let f = fill_link(s, i.past_octet(s), links, n, params, m);
-        n += 1;
+        n = LinkNumber(n.0 + 1);
         m = f.next;
         let at = f.at;
         if at.at.0 >= s.len() {

@@ -3,15 +3,20 @@
 ghost use mathlib.Core.Path.{_≡_};
 ghost use Prim.Native.Nat.{_<_, _≤_};
 ghost use lib.ListN.{length};
+use reader::ReadAnswer;
 
-// A header that is its own name.
+mod ask;
+
+// A header that is its own name; if it is read, the table is asked too.
 fn list_header(header: &[u8]) {
     io::write_all(1, b"# ");
     io::write_all(1, header);
     io::write_all(1, b"\n");
     let mut links = [0usize; 1024];
     let mut params = [0usize; 5120];
-    listing::list(header, &mut links, &mut params);
+    if let ReadAnswer::Done(n, m) = listing::list(header, &mut links, &mut params) {
+        ask::all(header, &links, &params, n, m);
+    }
 }
 
 // Where the line that begins at `from` ends.
@@ -38,18 +43,16 @@ fn list_lines(s: &[u8]) {
     }
 }
 
-// A header of the length that is lent: `<`, a run of `a`, and the last octet.
-fn list_long(header: &mut [u8], last: u8)
+// A header of the length that is lent: `<`, a run of `a`, and `>`.
+fn list_long(header: &mut [u8])
     requires { ⌜ 0 < length (now header) ⌝ }
 {
     let n = header.len();
     io::write_all(1, b"# octets ");
     io::print_decimal(1, n as u64);
-    io::write_all(1, b" ");
-    io::write_all(1, &[last]);
     io::write_all(1, b"\n");
     header[0] = b'<';
-    header[n - 1] = last;
+    header[n - 1] = b'>';
     let mut links = [0usize; 4];
     listing::list(header, &mut links, &mut []);
 }
@@ -60,11 +63,11 @@ fn run_of_a() -> [u8; 8193]
     [b'a'; 8193]
 }
 
-fn list_length(n: usize, last: u8)
+fn list_length(n: usize)
     requires { ⌜ (0 < n) × (n ≤ 8193) ⌝ }
 {
     let mut header = run_of_a();
-    list_long(&mut header[..n], last);
+    list_long(&mut header[..n]);
 }
 
 // A header of two links and three parameters, in as many slots.
@@ -89,12 +92,9 @@ fn main() {
     let mut input = io::large_buffer();
     let n = io::read_full(0, &mut input);
     list_lines(&input[..n]);
-    list_length(8191, b'>');
-    list_length(8192, b'>');
-    list_length(8193, b'>');
-    list_length(8191, b'a');
-    list_length(8192, b'a');
-    list_length(8193, b'a');
+    list_length(8191);
+    list_length(8192);
+    list_length(8193);
     list_room(8, 15);
     list_room(11, 19);
     list_room(7, 15);

@@ -7,11 +7,11 @@ use Rattle.listing.proofs.list.Tie as tie
 read-requires : tie.Need-read-requires
 read-requires c κs = search needs
 
-enum-known-n : tie.Need-enum-known-n
-enum-known-n c = search needs
+enum-known-answer : tie.Need-enum-known-answer
+enum-known-answer c = search needs
 
 put-table-requires : tie.Need-put-table-requires
-put-table-requires c κs = done-held (c .before .before .before .before .before .before .before .before .before .read .ensures) (c .before .before .before .n .given .1)
+put-table-requires c κs = done-held (c .before .before .before .before .before .before .before .before .before .read .ensures) (c .before .before .before .answer .given .1)
 
 enum-told : tie.Need-enum-told
 enum-told c = search needs
@@ -19,8 +19,8 @@ enum-told c = search needs
 put-refusal-requires : tie.Need-put-refusal-requires
 put-refusal-requires c κs = search needs
 
-enum-known-p : tie.Need-enum-known-p
-enum-known-p c = search needs
+enum-known-answer-2 : tie.Need-enum-known-answer-2
+enum-known-answer-2 c = search needs
 
 put-refusal-requires-2 : tie.Need-put-refusal-requires-2
 put-refusal-requires-2 c κs = search needs
@@ -87,11 +87,11 @@ list-spec =
     tie.close
     (tie.spec
     read-requires
-    enum-known-n
+    enum-known-answer
     put-table-requires
     enum-told
     put-refusal-requires
-    enum-known-p
+    enum-known-answer-2
     put-refusal-requires-2
     enum-told-2
     put-refusal-requires-3

@@ -20,18 +20,6 @@ slice-aggregate-write-all-2 c = search needs
 write-all-requires-2 : tie.Need-write-all-requires-2
 write-all-requires-2 c κs = search needs
 
-slice-aggregate-write-all-3 : tie.Need-slice-aggregate-write-all-3
-slice-aggregate-write-all-3 c = search needs
-
-write-all-requires-3 : tie.Need-write-all-requires-3
-write-all-requires-3 c κs = search needs
-
-slice-aggregate-write-all-4 : tie.Need-slice-aggregate-write-all-4
-slice-aggregate-write-all-4 c = search needs
-
-write-all-requires-4 : tie.Need-write-all-requires-4
-write-all-requires-4 c κs = search needs
-
 slice-write-header : tie.Need-slice-write-header
 slice-write-header c = search needs
 
@@ -65,10 +53,6 @@ list-long-spec =
     print-decimal-requires
     slice-aggregate-write-all-2
     write-all-requires-2
-    slice-aggregate-write-all-3
-    write-all-requires-3
-    slice-aggregate-write-all-4
-    write-all-requires-4
     slice-write-header
     sub-header
     slice-write-header-2

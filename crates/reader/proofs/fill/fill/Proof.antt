@@ -19,7 +19,7 @@ use Rattle.reader.proofs.fill.fill.Statement.{statement}
 use Rattle.reader.proofs.fill.fill.Tie as tie
 
 abbrev Inv-loop : tie.InvT-loop
-Inv-loop s links₀ params₀ c₀ n₀ m₀ links params c n m = Filling s links₀ params₀ (c .at .0) n m links params
+Inv-loop s links₀ params₀ c₀ n₀ m₀ links params c n m = Filling s links₀ params₀ (c .at .0) (n .0) (m .0) links params
 
 abbrev μ-loop : tie.MeasureT-loop
 μ-loop s links₀ params₀ c₀ n₀ m₀ links params c n m = length s - c .at .0
@@ -60,23 +60,23 @@ past-octet-requires-2 c κs = search needs
 fill-link-requires : tie.Need-fill-link-requires Inv-loop μ-loop
 fill-link-requires c κs = before-link (c .before .before .before .before .before .before .before .before .before .before .before .before .before .pre) (c .before .before .before .before .before .before .before .before .loop .inv) (c .before .before .before .before .before .before .before .past-blanks .ensures) (c .before .before .before .before .before .if1 .left) ((c .before .before .before .before .sees .ensures .not) (c .before .before .before .if2 .left) (c .before .before .before .before .before .if1 .left)) (c .before .before .past-octet2 .ensures)
 
-add-n : tie.Need-add-n Inv-loop μ-loop
-add-n c = omega (arith, links-few (c .before .before .before .before .before .before .before .before .before .before .before .before .before .before .before .before .before .before .pre) (c .before .before .before .before .before .before .before .before .before .before .before .before .before .loop .inv), (c .before .before .before .before .before .before .before .before .before .before .before .before .before .before .before .before .before .before .good .1 .0 .0))
+add-if3 : tie.Need-add-if3 Inv-loop μ-loop
+add-if3 c = omega (arith, links-few (c .before .before .before .before .before .before .before .before .before .before .before .before .before .before .before .before .before .before .before .pre) (c .before .before .before .before .before .before .before .before .before .before .before .before .before .before .loop .inv), (c .before .before .before .before .before .before .before .before .before .before .before .before .before .before .before .before .before .before .before .good .1 .0 .0))
 
 same-length-3 : tie.Need-same-length-3 Inv-loop μ-loop
 same-length-3 c =
-    lengths-kept (c .before .before .before .before .before .before .before .before .before .before .before .before .before .before .before .before .before .before .before .before .before .pre) (c .before .before .before .before .before .before .before .before .before .before .before .before .before .before .before .before .loop .inv) (c .before .before .before .before .before .before .before .before .before .before .before .before .before .before .before .past-blanks .ensures) (c .before .before .before .before .before .before .before .before .before .before .before .before .before .if1 .left) ((c .before .before .before .before .before .before .before .before .before .before .before .before .sees .ensures .not) (c .before .before .before .before .before .before .before .before .before .before .before .if2 .left) (c .before .before .before .before .before .before .before .before .before .before .before .before .before .if1 .left)) (c .before .before .before .before .before .before .before .before .before .before .past-octet2 .ensures)
-    (c .before .before .before .before .before .before .before .fill-link .ensures) .0
+    lengths-kept (c .before .before .before .before .before .before .before .before .before .before .before .before .before .before .before .before .before .before .before .before .before .before .before .pre) (c .before .before .before .before .before .before .before .before .before .before .before .before .before .before .before .before .before .before .loop .inv) (c .before .before .before .before .before .before .before .before .before .before .before .before .before .before .before .before .before .past-blanks .ensures) (c .before .before .before .before .before .before .before .before .before .before .before .before .before .before .before .if1 .left) ((c .before .before .before .before .before .before .before .before .before .before .before .before .before .before .sees .ensures .not) (c .before .before .before .before .before .before .before .before .before .before .before .before .before .if2 .left) (c .before .before .before .before .before .before .before .before .before .before .before .before .before .before .before .if1 .left)) (c .before .before .before .before .before .before .before .before .before .before .before .before .past-octet2 .ensures)
+    (c .before .before .before .before .before .before .before .before .before .fill-link .ensures) .0
 
 same-length-4 : tie.Need-same-length-4 Inv-loop μ-loop
 same-length-4 c =
-    lengths-kept (c .before .before .before .before .before .before .before .before .before .before .before .before .before .before .before .before .before .before .before .before .before .pre) (c .before .before .before .before .before .before .before .before .before .before .before .before .before .before .before .before .loop .inv) (c .before .before .before .before .before .before .before .before .before .before .before .before .before .before .before .past-blanks .ensures) (c .before .before .before .before .before .before .before .before .before .before .before .before .before .if1 .left) ((c .before .before .before .before .before .before .before .before .before .before .before .before .sees .ensures .not) (c .before .before .before .before .before .before .before .before .before .before .before .if2 .left) (c .before .before .before .before .before .before .before .before .before .before .before .before .before .if1 .left)) (c .before .before .before .before .before .before .before .before .before .before .past-octet2 .ensures)
-    (c .before .before .before .before .before .before .before .fill-link .ensures) .1
+    lengths-kept (c .before .before .before .before .before .before .before .before .before .before .before .before .before .before .before .before .before .before .before .before .before .before .before .pre) (c .before .before .before .before .before .before .before .before .before .before .before .before .before .before .before .before .before .before .loop .inv) (c .before .before .before .before .before .before .before .before .before .before .before .before .before .before .before .before .before .past-blanks .ensures) (c .before .before .before .before .before .before .before .before .before .before .before .before .before .before .before .if1 .left) ((c .before .before .before .before .before .before .before .before .before .before .before .before .before .before .sees .ensures .not) (c .before .before .before .before .before .before .before .before .before .before .before .before .before .if2 .left) (c .before .before .before .before .before .before .before .before .before .before .before .before .before .before .before .if1 .left)) (c .before .before .before .before .before .before .before .before .before .before .before .before .past-octet2 .ensures)
+    (c .before .before .before .before .before .before .before .before .before .fill-link .ensures) .1
 
 returns-2 : tie.Need-returns-2 Inv-loop μ-loop
 returns-2 c =
-    filled-behind (c .before .before .before .before .before .before .before .before .before .before .before .before .before .before .before .before .before .before .before .before .before .pre) (c .before .before .before .before .before .before .before .before .before .before .before .before .before .before .before .before .loop .inv) (c .before .before .before .before .before .before .before .before .before .before .before .before .before .before .before .past-blanks .ensures) (c .before .before .before .before .before .before .before .before .before .before .before .before .before .if1 .left) ((c .before .before .before .before .before .before .before .before .before .before .before .before .sees .ensures .not) (c .before .before .before .before .before .before .before .before .before .before .before .if2 .left) (c .before .before .before .before .before .before .before .before .before .before .before .before .before .if1 .left)) (c .before .before .before .before .before .before .before .before .before .before .past-octet2 .ensures)
-    (c .before .before .before .before .before .before .before .fill-link .ensures) (c .if3 .taken)
+    filled-behind (c .before .before .before .before .before .before .before .before .before .before .before .before .before .before .before .before .before .before .before .before .before .before .before .pre) (c .before .before .before .before .before .before .before .before .before .before .before .before .before .before .before .before .before .before .loop .inv) (c .before .before .before .before .before .before .before .before .before .before .before .before .before .before .before .before .before .past-blanks .ensures) (c .before .before .before .before .before .before .before .before .before .before .before .before .before .before .before .if1 .left) ((c .before .before .before .before .before .before .before .before .before .before .before .before .before .before .sees .ensures .not) (c .before .before .before .before .before .before .before .before .before .before .before .before .before .if2 .left) (c .before .before .before .before .before .before .before .before .before .before .before .before .before .before .before .if1 .left)) (c .before .before .before .before .before .before .before .before .before .before .before .before .past-octet2 .ensures)
+    (c .before .before .before .before .before .before .before .before .before .fill-link .ensures) (c .if3 .taken)
 
 past-octet-requires-3 : tie.Need-past-octet-requires-3 Inv-loop μ-loop
 past-octet-requires-3 c κs = search needs
@@ -86,17 +86,17 @@ loop-less-2 c =
     omega (
       arith,
       (c .past-octet3 .ensures),
-      (c .before .before .before .before .before .before .before .before .before .before .before .before .before .before .before .before .past-blanks .ensures .forward),
-      (c .before .before .before .before .before .before .before .before .before .before .before .past-octet2 .ensures),
+      (c .before .before .before .before .before .before .before .before .before .before .before .before .before .before .before .before .before .before .past-blanks .ensures .forward),
+      (c .before .before .before .before .before .before .before .before .before .before .before .before .before .past-octet2 .ensures),
       (c .before .if3 .left),
-      behind-inside (c .before .before .before .before .before .before .before .before .before .before .before .before .before .before .before .before .before .before .before .before .before .before .pre) (c .before .before .before .before .before .before .before .before .before .before .before .before .before .before .before .before .before .loop .inv) (c .before .before .before .before .before .before .before .before .before .before .before .before .before .before .before .before .past-blanks .ensures) (c .before .before .before .before .before .before .before .before .before .before .before .before .before .before .if1 .left) ((c .before .before .before .before .before .before .before .before .before .before .before .before .before .sees .ensures .not) (c .before .before .before .before .before .before .before .before .before .before .before .before .if2 .left) (c .before .before .before .before .before .before .before .before .before .before .before .before .before .before .if1 .left)) (c .before .before .before .before .before .before .before .before .before .before .before .past-octet2 .ensures)
-          (c .before .before .before .before .before .before .before .before .fill-link .ensures) .0,
+      behind-inside (c .before .before .before .before .before .before .before .before .before .before .before .before .before .before .before .before .before .before .before .before .before .before .before .before .pre) (c .before .before .before .before .before .before .before .before .before .before .before .before .before .before .before .before .before .before .before .loop .inv) (c .before .before .before .before .before .before .before .before .before .before .before .before .before .before .before .before .before .before .past-blanks .ensures) (c .before .before .before .before .before .before .before .before .before .before .before .before .before .before .before .before .if1 .left) ((c .before .before .before .before .before .before .before .before .before .before .before .before .before .before .before .sees .ensures .not) (c .before .before .before .before .before .before .before .before .before .before .before .before .before .before .if2 .left) (c .before .before .before .before .before .before .before .before .before .before .before .before .before .before .before .before .if1 .left)) (c .before .before .before .before .before .before .before .before .before .before .before .before .before .past-octet2 .ensures)
+          (c .before .before .before .before .before .before .before .before .before .before .fill-link .ensures) .0,
     )
 
 loop-again-2 : tie.Need-loop-again-2 Inv-loop μ-loop
 loop-again-2 c =
-    link-on (c .before .before .before .before .before .before .before .before .before .before .before .before .before .before .before .before .before .before .before .before .before .before .pre) (c .before .before .before .before .before .before .before .before .before .before .before .before .before .before .before .before .before .loop .inv) (c .before .before .before .before .before .before .before .before .before .before .before .before .before .before .before .before .past-blanks .ensures) (c .before .before .before .before .before .before .before .before .before .before .before .before .before .before .if1 .left) ((c .before .before .before .before .before .before .before .before .before .before .before .before .before .sees .ensures .not) (c .before .before .before .before .before .before .before .before .before .before .before .before .if2 .left) (c .before .before .before .before .before .before .before .before .before .before .before .before .before .before .if1 .left)) (c .before .before .before .before .before .before .before .before .before .before .before .past-octet2 .ensures)
-    (c .before .before .before .before .before .before .before .before .fill-link .ensures) (c .before .if3 .left) (c .past-octet3 .ensures)
+    link-on (c .before .before .before .before .before .before .before .before .before .before .before .before .before .before .before .before .before .before .before .before .before .before .before .before .pre) (c .before .before .before .before .before .before .before .before .before .before .before .before .before .before .before .before .before .before .before .loop .inv) (c .before .before .before .before .before .before .before .before .before .before .before .before .before .before .before .before .before .before .past-blanks .ensures) (c .before .before .before .before .before .before .before .before .before .before .before .before .before .before .before .before .if1 .left) ((c .before .before .before .before .before .before .before .before .before .before .before .before .before .before .before .sees .ensures .not) (c .before .before .before .before .before .before .before .before .before .before .before .before .before .before .if2 .left) (c .before .before .before .before .before .before .before .before .before .before .before .before .before .before .before .before .if1 .left)) (c .before .before .before .before .before .before .before .before .before .before .before .before .before .past-octet2 .ensures)
+    (c .before .before .before .before .before .before .before .before .before .before .fill-link .ensures) (c .before .if3 .left) (c .past-octet3 .ensures)
 
 pub fill-spec : {M : Type 1} → statement M
 fill-spec =
@@ -116,7 +116,7 @@ fill-spec =
     loop-again
     past-octet-requires-2
     fill-link-requires
-    add-n
+    add-if3
     same-length-3
     same-length-4
     returns-2

@@ -23,11 +23,11 @@ past-octet-requires c κs = target-inside (c .before .before .before .past-targe
 fill-params-requires : tie.Need-fill-params-requires
 fill-params-requires c κs = before-params (c .before .before .before .before .before .before .before .before .before .pre) (c .before .before .before .before .before .past-target .ensures) (c .before .before .before .t .given .1) (c .before .past-octet .ensures)
 
-sub-t20 : tie.Need-sub-t20
-sub-t20 c = search needs
+sub-t19 : tie.Need-sub-t19
+sub-t19 c = search needs
 
 put-link-requires : tie.Need-put-link-requires
-put-link-requires c κs = link-room (c .before .before .before .before .before .before .before .before .before .before .before .before .before .before .pre) (c .before .before .before .before .before .before .before .before .before .before .past-target .ensures) (c .before .before .before .before .before .before .before .before .t .given .1) (c .before .before .before .before .before .before .past-octet .ensures)
+put-link-requires c κs = link-room (c .before .before .before .before .before .before .before .before .before .before .before .before .before .before .before .pre) (c .before .before .before .before .before .before .before .before .before .before .before .past-target .ensures) (c .before .before .before .before .before .before .before .before .before .t .given .1) (c .before .before .before .before .before .before .before .past-octet .ensures)
 
 returns : tie.Need-returns
 returns c = target-fits (c .before .before .before .before .before .before .before .pre) (c .before .before .before .past-target .ensures) (c .before .-p .given .1)
@@ -39,7 +39,7 @@ same-length-2 : tie.Need-same-length-2
 same-length-2 c = search needs
 
 returns-2 : tie.Need-returns-2
-returns-2 c = link-filled (c .before .before .before .before .before .before .before .before .before .before .before .before .before .before .before .before .before .pre) (c .before .before .before .before .before .before .before .before .before .before .before .before .before .past-target .ensures) (c .before .before .before .before .before .before .before .before .before .before .before .t .given .1) (c .before .before .before .before .before .before .before .before .before .past-octet .ensures) (c .before .before .before .before .before .before .before .fill-params .ensures) (c .before .before .put-link .ensures)
+returns-2 c = link-filled (c .before .before .before .before .before .before .before .before .before .before .before .before .before .before .before .before .before .before .pre) (c .before .before .before .before .before .before .before .before .before .before .before .before .before .before .past-target .ensures) (c .before .before .before .before .before .before .before .before .before .before .before .before .t .given .1) (c .before .before .before .before .before .before .before .before .before .before .past-octet .ensures) (c .before .before .before .before .before .before .before .before .fill-params .ensures) (c .before .before .put-link .ensures)
 
 pub fill-link-spec : {M : Type 1} → statement M
 fill-link-spec =
@@ -50,7 +50,7 @@ fill-link-spec =
     enum-known-t
     past-octet-requires
     fill-params-requires
-    sub-t20
+    sub-t19
     put-link-requires
     returns
     same-length

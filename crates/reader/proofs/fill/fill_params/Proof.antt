@@ -10,10 +10,10 @@ use Rattle.reader.proofs.fill.fill_params.Statement.{statement}
 use Rattle.reader.proofs.fill.fill_params.Tie as tie
 
 abbrev Inv-loop : tie.InvT-loop
-Inv-loop s params₀ m c₀ n₀ seen₀ params c n seen = Writing s (c₀ .at .0) m params₀ (c .at .0) n seen params
+Inv-loop s params₀ c₀ n₀ seen₀ params c n seen = Writing s (c₀ .at .0) (n₀ .0) params₀ (c .at .0) (n .0) seen params
 
 abbrev μ-loop : tie.MeasureT-loop
-μ-loop s params₀ m c₀ n₀ seen₀ params c n seen = length s - c .at .0
+μ-loop s params₀ c₀ n₀ seen₀ params c n seen = length s - c .at .0
 
 none-requires : tie.Need-none-requires Inv-loop μ-loop
 none-requires c κs = search needs

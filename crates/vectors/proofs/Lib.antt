@@ -1,0 +1,2 @@
+-- What the proofs of the crate `vectors` rest on.
+pub mod Copied
