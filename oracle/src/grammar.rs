@@ -1,4 +1,4 @@
-//! 01's grammar, written down as a value.
+//! The rules' grammar, written down as a value.
 //!
 //! Two things hold of every rule here, and the other modules lean on them:
 //! each rule derives at least one text, and what stands under [`Rule::Any`]

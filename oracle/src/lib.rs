@@ -1,14 +1,14 @@
-//! A reference for the Link field contract (`01-scope.md`, called 01 below).
+//! A reference for the rules of reading, searching and writing Link field values.
 //!
 //! It answers the same questions as the product and is written in another
 //! way: the grammar is a value (`grammar`), what it derives is asked by sets
 //! of places (`sets`), the malformed place by the cuts that can still be
 //! completed (`prefix`), and the records come from a derivation found so
-//! (`derivation`, `reading`). All else follows 01's definitions word by
+//! (`derivation`, `reading`). All else follows the rules' definitions word by
 //! word. Clarity comes before speed.
 //!
 //! Tables are lent as slots of plain numbers, and every answer begins with
-//! one of 01's numbers ([`number`]).
+//! one of the rules' numbers ([`number`]).
 
 mod context;
 mod derivation;

@@ -1,4 +1,4 @@
-//! 01's numbers, and its length limit.
+//! The numbers of the answers, and the length limit.
 
 /// Done.
 pub const DONE: usize = 0;
