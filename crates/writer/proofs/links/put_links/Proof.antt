@@ -22,16 +22,36 @@ abbrev μ-loop : tie.MeasureT-loop
 μ-loop text links params link-count param-count out₀ at₀ i₀ out at i = link-count - i
 
 loop-holds : tie.Need-loop-holds Inv-loop μ-loop
-loop-holds c = record { inside = omega arith; put = onto (sym (whole-form (tableOf (c .before .before .before .before .args .text .now) (c .before .before .before .before .args .links .now) (c .before .before .before .before .args .params .now) (c .before .before .before .before .args .link-count) (c .before .before .before .before .args .param-count)))) (begin (c .before .before .before .before .args .out .now) 0 (writtenForm (tableOf (c .before .before .before .before .args .text .now) (c .before .before .before .before .args .links .now) (c .before .before .before .before .args .params .now) (c .before .before .before .before .args .link-count) (c .before .before .before .before .args .param-count))) (omega (arith, c .before .before .before .before .pre .1))) }
+loop-holds c =
+    let start = c .before .before .before .before in
+    let t = tableOf (start .args .text .now) (start .args .links .now) (start .args .params .now) (start .args .link-count) (start .args .param-count) in
+    record { inside = omega arith; put = onto (sym (whole-form t)) (begin (start .args .out .now) 0 (writtenForm t) (omega (arith, start .pre .1))) }
 
 link-at-requires : tie.Need-link-at-requires Inv-loop μ-loop
 link-at-requires c κs = link-slots (c .before .before .before .before .before .before .pre .0 .good) (c .loop-test .taken)
 
 put-parting-requires : tie.Need-put-parting-requires Inv-loop μ-loop
-put-parting-requires c κs = room (parting (eqb (c .before .before .before .loop .i) 0)) (linkForm (c .before .before .before .before .before .before .before .before .args .text .now) (linkOf (c .before .before .before .before .before .before .before .before .args .params .now) (c .before .link-at .result)) ++ linksLeft (c .before .before .before .before .before .before .before .before .args .text .now) (c .before .before .before .before .before .before .before .before .args .links .now) (c .before .before .before .before .before .before .before .before .args .params .now) (c .before .before .before .before .before .before .before .before .args .link-count) (suc (c .before .before .before .loop .i))) (onto (links-next (c .before .before .before .before .before .before .before .before .args .text .now) (c .before .before .before .before .before .before .before .before .args .links .now) (c .before .before .before .before .before .before .before .before .args .params .now) (c .before .before .before .before .before .before .before .before .args .link-count) (c .before .before .loop-test .taken) (c .before .link-at .ensures)) (c .before .before .before .loop .inv .put))
+put-parting-requires c κs =
+    let start = c .before .before .before .before .before .before .before .before in
+    let loop′ = c .before .before .before .loop in
+    let loop-test′ = c .before .before .loop-test in
+    let w = onto (links-next (start .args .text .now) (start .args .links .now) (start .args .params .now) (start .args .link-count) (loop-test′ .taken) (c .before .link-at .ensures)) (loop′ .inv .put) in
+    let form = linkForm (start .args .text .now) (linkOf (start .args .params .now) (c .before .link-at .result)) in
+    let left = linksLeft (start .args .text .now) (start .args .links .now) (start .args .params .now) (start .args .link-count) (suc (loop′ .i)) in
+    room (parting (eqb (loop′ .i) 0)) (form ++ left) w
 
 put-link-requires : tie.Need-put-link-requires Inv-loop μ-loop
-put-link-requires c κs = (target-span (c .before .before .before .before .before .before .before .before .before .before .before .before .pre .0 .good) (c .before .before .before .before .before .before .loop-test .taken) (c .before .before .before .before .before .link-at .ensures), good-run (c .before .before .before .before .before .before .before .before .before .before .before .before .pre .0 .good) (c .before .before .before .before .before .before .loop-test .taken) (c .before .before .before .before .before .link-at .ensures), c .before .before .before .before .before .before .before .before .before .before .before .before .pre .0 .short, room (linkForm (c .before .before .before .before .before .before .before .before .before .before .before .before .args .text .now) (linkOf (c .before .before .before .before .before .before .before .before .before .before .before .before .args .params .now) (c .before .before .before .before .before .link-at .result))) (linksLeft (c .before .before .before .before .before .before .before .before .before .before .before .before .args .text .now) (c .before .before .before .before .before .before .before .before .before .before .before .before .args .links .now) (c .before .before .before .before .before .before .before .before .before .before .before .before .args .params .now) (c .before .before .before .before .before .before .before .before .before .before .before .before .args .link-count) (suc (c .before .before .before .before .before .before .before .loop .i))) (several {left = (linkForm (c .before .before .before .before .before .before .before .before .before .before .before .before .args .text .now) (linkOf (c .before .before .before .before .before .before .before .before .before .before .before .before .args .params .now) (c .before .before .before .before .before .link-at .result)) ++ linksLeft (c .before .before .before .before .before .before .before .before .before .before .before .before .args .text .now) (c .before .before .before .before .before .before .before .before .before .before .before .before .args .links .now) (c .before .before .before .before .before .before .before .before .before .before .before .before .args .params .now) (c .before .before .before .before .before .before .before .before .before .before .before .before .args .link-count) (suc (c .before .before .before .before .before .before .before .loop .i)))} (onto (links-next (c .before .before .before .before .before .before .before .before .before .before .before .before .args .text .now) (c .before .before .before .before .before .before .before .before .before .before .before .before .args .links .now) (c .before .before .before .before .before .before .before .before .before .before .before .before .args .params .now) (c .before .before .before .before .before .before .before .before .before .before .before .before .args .link-count) (c .before .before .before .before .before .before .loop-test .taken) (c .before .before .before .before .before .link-at .ensures)) (c .before .before .before .before .before .before .before .loop .inv .put)) (c .before .before .before .put-parting .ensures)))
+put-link-requires c κs =
+    let start = c .before .before .before .before .before .before .before .before .before .before .before .before in
+    let loop′ = c .before .before .before .before .before .before .before .loop in
+    let loop-test′ = c .before .before .before .before .before .before .loop-test in
+    let link-at′ = c .before .before .before .before .before .link-at in
+    let put-parting′ = c .before .before .before .put-parting in
+    let w = onto (links-next (start .args .text .now) (start .args .links .now) (start .args .params .now) (start .args .link-count) (loop-test′ .taken) (link-at′ .ensures)) (loop′ .inv .put) in
+    let form = linkForm (start .args .text .now) (linkOf (start .args .params .now) (link-at′ .result)) in
+    let left = linksLeft (start .args .text .now) (start .args .links .now) (start .args .params .now) (start .args .link-count) (suc (loop′ .i)) in
+    let w1 = several {left = form ++ left} w (put-parting′ .ensures) in
+    (target-span (start .pre .0 .good) (loop-test′ .taken) (link-at′ .ensures), good-run (start .pre .0 .good) (loop-test′ .taken) (link-at′ .ensures), start .pre .0 .short, room form left w1)
 
 add-i : tie.Need-add-i Inv-loop μ-loop
 add-i c = omega (arith, c .before .before .before .before .before .before .before .before .before .loop-test .taken, c .before .before .before .before .before .before .before .before .before .before .before .before .before .before .before .fits .link-count)
@@ -40,7 +60,19 @@ loop-less : tie.Need-loop-less Inv-loop μ-loop
 loop-less c = omega (arith, c .before .before .before .before .before .before .before .before .before .loop-test .taken)
 
 loop-again : tie.Need-loop-again Inv-loop μ-loop
-loop-again c = next (c .before .before .before .before .before .before .before .before .before .loop-test .taken) (several {left = (linksLeft (c .before .before .before .before .before .before .before .before .before .before .before .before .before .before .before .args .text .now) (c .before .before .before .before .before .before .before .before .before .before .before .before .before .before .before .args .links .now) (c .before .before .before .before .before .before .before .before .before .before .before .before .before .before .before .args .params .now) (c .before .before .before .before .before .before .before .before .before .before .before .before .before .before .before .args .link-count) (suc (c .before .before .before .before .before .before .before .before .before .before .loop .i)))} (several {left = (linkForm (c .before .before .before .before .before .before .before .before .before .before .before .before .before .before .before .args .text .now) (linkOf (c .before .before .before .before .before .before .before .before .before .before .before .before .before .before .before .args .params .now) (c .before .before .before .before .before .before .before .before .link-at .result)) ++ linksLeft (c .before .before .before .before .before .before .before .before .before .before .before .before .before .before .before .args .text .now) (c .before .before .before .before .before .before .before .before .before .before .before .before .before .before .before .args .links .now) (c .before .before .before .before .before .before .before .before .before .before .before .before .before .before .before .args .params .now) (c .before .before .before .before .before .before .before .before .before .before .before .before .before .before .before .args .link-count) (suc (c .before .before .before .before .before .before .before .before .before .before .loop .i)))} (onto (links-next (c .before .before .before .before .before .before .before .before .before .before .before .before .before .before .before .args .text .now) (c .before .before .before .before .before .before .before .before .before .before .before .before .before .before .before .args .links .now) (c .before .before .before .before .before .before .before .before .before .before .before .before .before .before .before .args .params .now) (c .before .before .before .before .before .before .before .before .before .before .before .before .before .before .before .args .link-count) (c .before .before .before .before .before .before .before .before .before .loop-test .taken) (c .before .before .before .before .before .before .before .before .link-at .ensures)) (c .before .before .before .before .before .before .before .before .before .before .loop .inv .put)) (c .before .before .before .before .before .before .put-parting .ensures)) (c .before .before .put-link .ensures))
+loop-again c =
+    let start = c .before .before .before .before .before .before .before .before .before .before .before .before .before .before .before in
+    let loop′ = c .before .before .before .before .before .before .before .before .before .before .loop in
+    let loop-test′ = c .before .before .before .before .before .before .before .before .before .loop-test in
+    let link-at′ = c .before .before .before .before .before .before .before .before .link-at in
+    let put-parting′ = c .before .before .before .before .before .before .put-parting in
+    let put-link′ = c .before .before .put-link in
+    let w = onto (links-next (start .args .text .now) (start .args .links .now) (start .args .params .now) (start .args .link-count) (loop-test′ .taken) (link-at′ .ensures)) (loop′ .inv .put) in
+    let form = linkForm (start .args .text .now) (linkOf (start .args .params .now) (link-at′ .result)) in
+    let left = linksLeft (start .args .text .now) (start .args .links .now) (start .args .params .now) (start .args .link-count) (suc (loop′ .i)) in
+    let w1 = several {left = form ++ left} w (put-parting′ .ensures) in
+    let w2 = several {left = left} w1 (put-link′ .ensures) in
+    next (loop-test′ .taken) w2
 
 same-length : tie.Need-same-length Inv-loop μ-loop
 same-length c = c .before .loop .inv .put .lengths

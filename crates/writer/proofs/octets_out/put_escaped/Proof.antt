@@ -31,7 +31,14 @@ shared-slice-read-put-quoted : tie.Need-shared-slice-read-put-quoted Inv-loop μ
 shared-slice-read-put-quoted c = omega (arith, c .before .before .if1 .left, c .before .before .before .before .before .before .before .before .pre .1)
 
 put-quoted-requires : tie.Need-put-quoted-requires Inv-loop μ-loop
-put-quoted-requires c κs = slots (c .before .before .before .before .before .loop .inv) (escapeOctet (getD (c .before .before .before .before .before .before .before .before .args .s .now) (c .before .before .before .meant-at .result) 0) []) (c .before .before .before .meant-at .result) (escaped-next (c .before .before .before .meant-at .ensures) (c .before .before .if1 .left))
+put-quoted-requires c κs =
+    let start = c .before .before .before .before .before .before .before .before in
+    let loop′ = c .before .before .before .before .before .loop in
+    let meant-at′ = c .before .before .before .meant-at in
+    let if1′ = c .before .before .if1 in
+    let octets = escapeOctet (getD (start .args .s .now) (meant-at′ .result) 0) [] in
+    let next-one = escaped-next (meant-at′ .ensures) (if1′ .left) in
+    slots (loop′ .inv) octets (meant-at′ .result) next-one
 
 add-k : tie.Need-add-k Inv-loop μ-loop
 add-k c = omega arith
@@ -40,7 +47,15 @@ loop-less : tie.Need-loop-less Inv-loop μ-loop
 loop-less c = omega (arith, c .before .before .before .before .before .before .meant-at .ensures .from, c .before .before .before .before .before .before .before .loop-test .taken)
 
 loop-again : tie.Need-loop-again Inv-loop μ-loop
-loop-again c = steps (c .before .before .before .before .before .before .before .before .loop .inv) (escapeOctet (getD (c .before .before .before .before .before .before .before .before .before .before .before .args .s .now) (c .before .before .before .before .before .before .meant-at .result) 0) []) (c .before .before .before .before .before .before .meant-at .result) (escaped-next (c .before .before .before .before .before .before .meant-at .ensures) (c .before .before .before .before .before .if1 .left)) (c .before .before .before .before .before .if1 .left) (c .before .before .put-quoted .ensures)
+loop-again c =
+    let start = c .before .before .before .before .before .before .before .before .before .before .before in
+    let loop′ = c .before .before .before .before .before .before .before .before .loop in
+    let meant-at′ = c .before .before .before .before .before .before .meant-at in
+    let if1′ = c .before .before .before .before .before .if1 in
+    let put-quoted′ = c .before .before .put-quoted in
+    let octets = escapeOctet (getD (start .args .s .now) (meant-at′ .result) 0) [] in
+    let next-one = escaped-next (meant-at′ .ensures) (if1′ .left) in
+    steps (loop′ .inv) octets (meant-at′ .result) next-one (if1′ .left) (put-quoted′ .ensures)
 
 same-length-2 : tie.Need-same-length-2 Inv-loop μ-loop
 same-length-2 c = c .before .loop .inv .put .lengths

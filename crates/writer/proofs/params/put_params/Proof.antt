@@ -21,7 +21,13 @@ param-at-requires : tie.Need-param-at-requires Inv-loop μ-loop
 param-at-requires c κs = omega (arith, c .before .before .before .before .before .before .pre .0 .slots, c .if1 .taken)
 
 put-param-requires : tie.Need-put-param-requires Inv-loop μ-loop
-put-param-requires c κs = (good-next (c .before .before .before .before .before .before .before .before .pre .0) (c .before .before .before .before .loop .inv .0) (c .before .before .if1 .taken) (c .before .param-at .ensures), c .before .before .before .before .before .before .before .before .pre .1, slots (c .before .before .before .before .loop .inv .1) (paramForm (c .before .before .before .before .before .before .before .before .args .text .now) (toParam (c .before .param-at .result))) (c .before .before .before .before .loop .p) (params-next (c .before .before .before .before .before .before .before .before .pre .0) (c .before .before .before .before .loop .inv .0) (c .before .before .if1 .taken) (c .before .param-at .ensures)))
+put-param-requires c κs =
+    let start = c .before .before .before .before .before .before .before .before in
+    let loop′ = c .before .before .before .before .loop in
+    let if1′ = c .before .before .if1 in
+    let form = paramForm (start .args .text .now) (toParam (c .before .param-at .result)) in
+    let next-one = params-next (start .pre .0) (loop′ .inv .0) (if1′ .taken) (c .before .param-at .ensures) in
+    (good-next (start .pre .0) (loop′ .inv .0) (if1′ .taken) (c .before .param-at .ensures), start .pre .1, slots (loop′ .inv .1) form (loop′ .p) next-one)
 
 add-p : tie.Need-add-p Inv-loop μ-loop
 add-p c = omega (arith, c .before .before .before .before .before .before .before .before .before .before .before .pre .0 .slots, c .before .before .before .before .before .if1 .taken)
@@ -30,7 +36,15 @@ loop-less : tie.Need-loop-less Inv-loop μ-loop
 loop-less c = omega (arith, c .before .before .before .before .before .if1 .taken)
 
 loop-again : tie.Need-loop-again Inv-loop μ-loop
-loop-again c = (omega (arith, c .before .before .before .before .before .before .before .loop .inv .0), steps (c .before .before .before .before .before .before .before .loop .inv .1) (paramForm (c .before .before .before .before .before .before .before .before .before .before .before .args .text .now) (toParam (c .before .before .before .before .param-at .result))) (c .before .before .before .before .before .before .before .loop .p) (params-next (c .before .before .before .before .before .before .before .before .before .before .before .pre .0) (c .before .before .before .before .before .before .before .loop .inv .0) (c .before .before .before .before .before .if1 .taken) (c .before .before .before .before .param-at .ensures)) (c .before .before .before .before .before .if1 .taken) (c .before .before .put-param .ensures))
+loop-again c =
+    let start = c .before .before .before .before .before .before .before .before .before .before .before in
+    let loop′ = c .before .before .before .before .before .before .before .loop in
+    let if1′ = c .before .before .before .before .before .if1 in
+    let param-at′ = c .before .before .before .before .param-at in
+    let put-param′ = c .before .before .put-param in
+    let form = paramForm (start .args .text .now) (toParam (param-at′ .result)) in
+    let next-one = params-next (start .pre .0) (loop′ .inv .0) (if1′ .taken) (param-at′ .ensures) in
+    (omega (arith, loop′ .inv .0), steps (loop′ .inv .1) form (loop′ .p) next-one (if1′ .taken) (put-param′ .ensures))
 
 same-length : tie.Need-same-length Inv-loop μ-loop
 same-length c = c .before .before .loop .inv .1 .put .lengths
