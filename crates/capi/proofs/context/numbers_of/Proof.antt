@@ -1,3 +1,4 @@
+-- Each case of the answer has its numbers.
 use mathlib.Core.Path.{refl}
 use borrow.Author.Needs.{needs}
 use Rattle.capi.proofs.context.numbers_of.Statement.{statement}

@@ -1,3 +1,4 @@
+-- The answer's numbers.
 use borrow.Author.Needs.{needs}
 use Rattle.capi.proofs.read.capstan_read.Statement.{statement}
 use Rattle.capi.proofs.read.capstan_read.Tie as tie

@@ -1,3 +1,4 @@
+-- The answer's numbers.
 use borrow.Author.Needs.{needs}
 use Rattle.capi.proofs.search.capstan_search.Statement.{statement}
 use Rattle.capi.proofs.search.capstan_search.Tie as tie

@@ -1,3 +1,4 @@
+-- The answer's numbers.
 use borrow.Author.Needs.{needs}
 use Rattle.capi.proofs.value.capstan_value.Statement.{statement}
 use Rattle.capi.proofs.value.capstan_value.Tie as tie
