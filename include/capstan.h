@@ -14,10 +14,10 @@
  * - No other thread writes to an argument, or reads one that is written to, while the call runs.
  *
  * Tables. A link record is CAPSTAN_LINK_SLOTS numbers: target start, target end, number of its first parameter, count of its
- * parameters. A parameter record is CAPSTAN_PARAM_SLOTS numbers: name start, name end, value start, value end, form. Places are octets
- * of the text, counted from 0, and an end is one past the last octet. Form 0 is no value, 1 a token, and 2 a quoted string, whose span
- * lies inside the quotes with its backslashes still there. Counts of slots may be anything; the room is that count divided by 4 or
- * by 5, rounded down.
+ * parameters. A parameter record is CAPSTAN_PARAM_SLOTS numbers: name start, name end, value start, value end, form. Places are
+ * octets of the text, counted from 0, and an end is one past the last octet. Form 0 is no value, 1 a token, and 2 a quoted string,
+ * whose span lies inside the quotes with its backslashes still there. Counts of slots may be anything; the room is that count divided
+ * by 4 or by 5, rounded down.
  *
  * Numbers. Each answer begins with one; the other numbers of a refusal are 0, except the place with CAPSTAN_MALFORMED, and a refusal
  * leaves every slot and octet lent as it was. After success, slots and octets past those used hold what they held.
@@ -77,8 +77,9 @@ typedef struct { size_t number, length; } capstan_length_answer;
 /*
  * Reads a header, which is the field value without the field's name and colon, into the tables `links` and `params`.
  *
- * Answers the counts of links and of kept parameters; of `rel`, `anchor`, `media`, `title`, `title*` and `type` a link keeps the first
- * only. A malformed header is refused with its place: how many octets stand in its longest prefix that begins some well formed header.
+ * Answers the counts of links and of kept parameters; of `rel`, `anchor`, `media`, `title`, `title*` and `type` a link keeps the
+ * first only. A malformed header is refused with its place: how many octets stand in its longest prefix that begins some well formed
+ * header.
  * Numbers, in the order in which they are tested: CAPSTAN_TOO_LONG, CAPSTAN_MALFORMED, CAPSTAN_NO_LINK_ROOM, CAPSTAN_NO_PARAM_ROOM.
  */
 capstan_read_answer capstan_read(const uint8_t *header, size_t header_len, size_t *links, size_t link_slots, size_t *params,

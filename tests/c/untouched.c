@@ -67,8 +67,8 @@ static void test_read(void)
     read_refused(long_text, CAPSTAN_LIMIT + 1, LINK_SLOTS, PARAM_SLOTS, CAPSTAN_TOO_LONG, 0, "read: 8,193 octets");
     read_refused(octets("<a>,<b> <c>"), 11, LINK_SLOTS, PARAM_SLOTS, CAPSTAN_MALFORMED, 8, "read: a link behind a link");
     read_refused(octets("<a>;t=\"b"), 8, LINK_SLOTS, PARAM_SLOTS, CAPSTAN_MALFORMED, 8, "read: cut short");
-    read_refused(octets(two), len, 2 * CAPSTAN_LINK_SLOTS - 1, PARAM_SLOTS, CAPSTAN_NO_LINK_ROOM, 0, "read: room for one link");
-    read_refused(octets(two), len, LINK_SLOTS, 3 * CAPSTAN_PARAM_SLOTS - 1, CAPSTAN_NO_PARAM_ROOM, 0, "read: room for two parameters");
+    read_refused(octets(two), len, 2 * CAPSTAN_LINK_SLOTS - 1, PARAM_SLOTS, CAPSTAN_NO_LINK_ROOM, 0, "read: one link");
+    read_refused(octets(two), len, LINK_SLOTS, 3 * CAPSTAN_PARAM_SLOTS - 1, CAPSTAN_NO_PARAM_ROOM, 0, "read: two parameters");
     read_refused(octets(two), len, 0, 0, CAPSTAN_NO_LINK_ROOM, 0, "read: no room");
 
     fill();
@@ -110,6 +110,7 @@ static void test_search(void)
     search(octets(header), HEADER_LEN, 3, "", CAPSTAN_NOT_FOUND, 0, "search: an empty relation");
     search(octets(header), HEADER_LEN, 2, "prev", CAPSTAN_BAD_TABLE, 0, "search: a parameter fewer");
     search(octets(header), HEADER_LEN - 1, 3, "prev", CAPSTAN_BAD_TABLE, 0, "search: the text cut short");
+    search(octets(header), HEADER_LEN, SIZE_MAX, "prev", CAPSTAN_BAD_TABLE, 0, "search: all parameters that can be counted");
     search(long_text, sizeof long_text, 3, "prev", CAPSTAN_TOO_LONG, 0, "search: 8,193 octets");
 }
 
@@ -128,6 +129,7 @@ static void test_context(void)
     context(octets(header), HEADER_LEN, 3, 0, CAPSTAN_DONE, CAPSTAN_TEXT, 24, 26, "context: the anchor");
     context(octets(header), HEADER_LEN, 3, 1, CAPSTAN_DONE, CAPSTAN_BASE, 0, 8, "context: the base");
     context(octets(header), HEADER_LEN, 3, 2, CAPSTAN_NO_SUCH_LINK, CAPSTAN_NO_SOURCE, 0, 0, "context: no such link");
+    context(octets(header), HEADER_LEN, 3, SIZE_MAX, CAPSTAN_NO_SUCH_LINK, CAPSTAN_NO_SOURCE, 0, 0, "context: the last number");
     context(octets(header), HEADER_LEN, 2, 0, CAPSTAN_BAD_TABLE, CAPSTAN_NO_SOURCE, 0, 0, "context: a parameter fewer");
     context(long_text, sizeof long_text, 3, 0, CAPSTAN_TOO_LONG, CAPSTAN_NO_SOURCE, 0, 0, "context: 8,193 octets");
 }
@@ -148,6 +150,7 @@ static void test_value(void)
     value_refused(octets(header), HEADER_LEN, 2, 0, 0, OCTETS, CAPSTAN_BAD_TABLE, "value: a parameter fewer");
     value_refused(octets(header), HEADER_LEN, 3, 2, 0, OCTETS, CAPSTAN_NO_SUCH_LINK, "value: no such link");
     value_refused(octets(header), HEADER_LEN, 3, 0, 2, OCTETS, CAPSTAN_NOT_FOUND, "value: no such parameter");
+    value_refused(octets(header), HEADER_LEN, 3, 1, SIZE_MAX, OCTETS, CAPSTAN_NOT_FOUND, "value: the last place");
     value_refused(octets(header), HEADER_LEN, 3, 0, 0, 3, CAPSTAN_NO_OUTPUT_ROOM, "value: room for three octets");
 
     capstan_length_answer v = capstan_value(octets(header), HEADER_LEN, links, LINK_SLOTS, params, PARAM_SLOTS, 2, 3, 0, 0, out, 4);
