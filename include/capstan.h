@@ -35,7 +35,7 @@
 extern "C" {
 #endif
 
-/* The most octets of a header or a text. */
+/* The most octets of a header, a text or a written form. */
 #define CAPSTAN_LIMIT 8192
 
 /* The numbers of one link record, and of one parameter record. */
@@ -44,7 +44,7 @@ extern "C" {
 
 enum {
     CAPSTAN_DONE = 0,
-    CAPSTAN_TOO_LONG = 1,       /* the header or the text is over CAPSTAN_LIMIT octets */
+    CAPSTAN_TOO_LONG = 1,       /* the header, the text or the written form is over CAPSTAN_LIMIT octets */
     CAPSTAN_MALFORMED = 2,      /* the grammar doesn't derive the header */
     CAPSTAN_NO_LINK_ROOM = 3,   /* more links than room */
     CAPSTAN_NO_PARAM_ROOM = 4,  /* more kept parameters than room */
@@ -112,6 +112,17 @@ capstan_context_answer capstan_context(const uint8_t *text, size_t text_len, con
 capstan_length_answer capstan_value(const uint8_t *text, size_t text_len, const size_t *links, size_t link_slots,
                                     const size_t *params, size_t param_slots, size_t link_count, size_t param_count, size_t link,
                                     size_t place, uint8_t *out, size_t out_len);
+
+/*
+ * Writes a table to `out` as a header in one fixed form, and answers its length. Links are parted by a comma and a space; each is its
+ * target in `<` and `>`, and for each parameter `;`, a space, the name in small letters, `=`, and the value, which stands bare if it is
+ * a token and else in quotes. Reading the octets written gives the same links with the same meanings.
+ * Numbers, in order: CAPSTAN_TOO_LONG (the text), CAPSTAN_BAD_TABLE, CAPSTAN_NO_RELATION, CAPSTAN_TOO_LONG (the written form),
+ * CAPSTAN_NO_OUTPUT_ROOM.
+ */
+capstan_length_answer capstan_write(const uint8_t *text, size_t text_len, const size_t *links, size_t link_slots,
+                                    const size_t *params, size_t param_slots, size_t link_count, size_t param_count, uint8_t *out,
+                                    size_t out_len);
 
 #ifdef __cplusplus
 }

@@ -29,9 +29,14 @@ int main()
                                    params.data(), params.size(), r.links, r.params, s.link);
     const auto v = capstan_value(octets(header), header.size(), links.data(), links.size(), params.data(), params.size(), r.links,
                                  r.params, s.link, 0, out.data(), out.size());
+    const std::string form = "</packs/8>; rel=next";
+    std::vector<std::uint8_t> written(form.size());
+    const auto w = capstan_write(octets(header), header.size(), links.data(), links.size(), params.data(), params.size(), r.links,
+                                 r.params, written.data(), written.size());
     const bool holds = r.number == CAPSTAN_DONE && r.links == 1 && r.params == 1 && s.number == CAPSTAN_DONE && s.link == 0
         && c.number == CAPSTAN_DONE && c.source == CAPSTAN_BASE && c.start == 0 && c.end == base.size() && v.number == CAPSTAN_DONE
-        && v.length == relation.size() && std::memcmp(out.data(), relation.data(), v.length) == 0;
+        && v.length == relation.size() && std::memcmp(out.data(), relation.data(), v.length) == 0 && w.number == CAPSTAN_DONE
+        && w.length == form.size() && std::memcmp(written.data(), form.data(), w.length) == 0;
     if (!holds)
         std::puts("header.cpp: an answer is not the one expected");
     return holds ? 0 : 1;

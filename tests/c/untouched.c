@@ -158,11 +158,71 @@ static void test_value(void)
     expect_kept(0, 0, 4, "value: just room enough");
 }
 
+static void write_refused(const uint8_t *text, size_t len, size_t link_count, size_t param_count, size_t out_len, size_t number,
+                          const char *what)
+{
+    capstan_length_answer w = capstan_write(text, len, links, LINK_SLOTS, params, PARAM_SLOTS, link_count, param_count, out, out_len);
+    expect(w.number == number && w.length == 0, what);
+    expect_kept(0, 0, 0, what);
+}
+
+/* Two links of one long target: a form over the limit, of a text that is not. */
+static void test_long_form(void)
+{
+    enum { TARGET = CAPSTAN_LIMIT / 2 + 1 };
+    static uint8_t text[TARGET + 10];
+
+    memset(text, 'a', sizeof text);
+    text[0] = '<';
+    memcpy(text + 1 + TARGET, ">;rel=x", 7);
+    fill();
+    capstan_read_answer r = capstan_read(text, TARGET + 8, links, LINK_SLOTS, params, PARAM_SLOTS);
+    expect(r.number == CAPSTAN_DONE && r.links == 1 && r.params == 1, "the long target is read");
+    memcpy(links + CAPSTAN_LINK_SLOTS, links, CAPSTAN_LINK_SLOTS * sizeof *links);
+    memcpy(params + CAPSTAN_PARAM_SLOTS, params, CAPSTAN_PARAM_SLOTS * sizeof *params);
+    links[CAPSTAN_LINK_SLOTS + 2] = 1;
+    keep();
+    write_refused(text, TARGET + 8, 1, 1, OCTETS, CAPSTAN_NO_OUTPUT_ROOM, "write: one long target");
+    write_refused(text, TARGET + 8, 2, 2, OCTETS, CAPSTAN_TOO_LONG, "write: a long form");
+}
+
+static void test_write(void)
+{
+    static const char bare[] = "<a>;rel=\"  \"";
+    static const char form[] = "<a>; rel=next; t=\"\\\"\"";
+    static const char quoted[] = "<a>;REL=\"n\\ext\";t=\"\\\"\"";
+    const size_t form_len = sizeof form - 1, quoted_len = sizeof quoted - 1;
+
+    read_header();
+    write_refused(long_text, sizeof long_text, 2, 3, OCTETS, CAPSTAN_TOO_LONG, "write: 8,193 octets");
+    write_refused(octets(header), HEADER_LEN, 2, 2, OCTETS, CAPSTAN_BAD_TABLE, "write: a parameter fewer");
+    write_refused(octets(header), HEADER_LEN, SIZE_MAX, SIZE_MAX, OCTETS, CAPSTAN_BAD_TABLE, "write: the largest counts");
+
+    fill();
+    capstan_read_answer r = capstan_read(octets(bare), sizeof bare - 1, links, LINK_SLOTS, params, PARAM_SLOTS);
+    expect(r.number == CAPSTAN_DONE, "spaces for a relation are read");
+    keep();
+    write_refused(octets(bare), sizeof bare - 1, 1, 1, OCTETS, CAPSTAN_NO_RELATION, "write: spaces for a relation");
+
+    fill();
+    r = capstan_read(octets(quoted), quoted_len, links, LINK_SLOTS, params, PARAM_SLOTS);
+    expect(r.number == CAPSTAN_DONE && r.links == 1 && r.params == 2, "the quoted values are read");
+    keep();
+    write_refused(octets(quoted), quoted_len, 1, 2, form_len - 1, CAPSTAN_NO_OUTPUT_ROOM, "write: an octet too few");
+    capstan_length_answer w = capstan_write(octets(quoted), quoted_len, links, LINK_SLOTS, params, PARAM_SLOTS, 1, 2, out, form_len);
+    expect(w.number == CAPSTAN_DONE && w.length == form_len && memcmp(out, form, form_len) == 0, "write: just room enough");
+    expect_kept(0, 0, form_len, "write: just room enough");
+    w = capstan_write(octets(""), 0, links, 0, params, 0, 0, 0, out, 0);
+    expect(w.number == CAPSTAN_DONE && w.length == 0, "write: no links");
+    test_long_form();
+}
+
 int main(void)
 {
     test_read();
     test_search();
     test_context();
     test_value();
+    test_write();
     return failures != 0;
 }

@@ -6,3 +6,4 @@ pub mod number;
 pub mod read;
 pub mod search;
 pub mod value;
+pub mod write;
