@@ -20,7 +20,10 @@ put-part-requires c κs =
     let l = start .args .l in
     let target = slice (l .target .from .0) (l .target .to .0) (start .args .text .now) in
     let left = paramsForm (start .args .text .now) (paramsFrom (start .args .params .now) (l .first .0) (l .count)) in
-    let w = begin (start .args .out .now) (start .args .at) (linkForm (start .args .text .now) (linkOf (start .args .params .now) l)) (start .pre .3) in
+    let w =
+    begin (start .args .out .now) (start .args .at) (linkForm (start .args .text .now) (linkOf (start .args .params .now) l))
+    (start .pre .3)
+    in
     let w1 = several w (put′ .ensures) in
     (start .pre .0 .ordered, start .pre .0 .inside, room target (62 ∷ left) w1)
 
@@ -31,7 +34,10 @@ put-requires-2 c κs =
     let put-part′ = c .before .before .before .put-part in
     let l = start .args .l in
     let target = slice (l .target .from .0) (l .target .to .0) (start .args .text .now) in
-    let w = begin (start .args .out .now) (start .args .at) (linkForm (start .args .text .now) (linkOf (start .args .params .now) l)) (start .pre .3) in
+    let w =
+    begin (start .args .out .now) (start .args .at) (linkForm (start .args .text .now) (linkOf (start .args .params .now) l))
+    (start .pre .3)
+    in
     let w1 = several w (put′ .ensures) in
     let w2 = several {bs = target} w1 (put-part′ .ensures) in
     octet-room w2
@@ -41,13 +47,20 @@ add-t17 c = search needs
 
 put-params-requires : tie.Need-put-params-requires
 put-params-requires c κs =
-    let start = c .before .before .before .before .before .before .before .before .before .before .before .before .before .before .before .before .before .before .before in
-    let put′ = c .before .before .before .before .before .before .before .before .before .before .before .before .before .before .put in
+    let start =
+    c .before .before .before .before .before .before .before .before .before .before .before .before .before .before .before .before .before .before .before
+    in
+    let put′ =
+    c .before .before .before .before .before .before .before .before .before .before .before .before .before .before .put
+    in
     let put-part′ = c .before .before .before .before .before .before .before .before .before .before .put-part in
     let put2′ = c .before .before .before .before .before .before .put2 in
     let l = start .args .l in
     let target = slice (l .target .from .0) (l .target .to .0) (start .args .text .now) in
-    let w = begin (start .args .out .now) (start .args .at) (linkForm (start .args .text .now) (linkOf (start .args .params .now) l)) (start .pre .3) in
+    let w =
+    begin (start .args .out .now) (start .args .at) (linkForm (start .args .text .now) (linkOf (start .args .params .now) l))
+    (start .pre .3)
+    in
     let w1 = several w (put′ .ensures) in
     let w2 = several {bs = target} w1 (put-part′ .ensures) in
     let w3 = several w2 (put2′ .ensures) in
@@ -59,14 +72,23 @@ same-length c = search needs
 
 returns : tie.Need-returns
 returns c =
-    let start = c .before .before .before .before .before .before .before .before .before .before .before .before .before .before .before .before .before .before .before .before .before .before in
-    let put′ = c .before .before .before .before .before .before .before .before .before .before .before .before .before .before .before .before .before .put in
-    let put-part′ = c .before .before .before .before .before .before .before .before .before .before .before .before .before .put-part in
+    let start =
+    c .before .before .before .before .before .before .before .before .before .before .before .before .before .before .before .before .before .before .before .before .before .before
+    in
+    let put′ =
+    c .before .before .before .before .before .before .before .before .before .before .before .before .before .before .before .before .before .put
+    in
+    let put-part′ =
+    c .before .before .before .before .before .before .before .before .before .before .before .before .before .put-part
+    in
     let put2′ = c .before .before .before .before .before .before .before .before .before .put2 in
     let put-params′ = c .before .before .put-params in
     let l = start .args .l in
     let target = slice (l .target .from .0) (l .target .to .0) (start .args .text .now) in
-    let w = begin (start .args .out .now) (start .args .at) (linkForm (start .args .text .now) (linkOf (start .args .params .now) l)) (start .pre .3) in
+    let w =
+    begin (start .args .out .now) (start .args .at) (linkForm (start .args .text .now) (linkOf (start .args .params .now) l))
+    (start .pre .3)
+    in
     let w1 = several w (put′ .ensures) in
     let w2 = several {bs = target} w1 (put-part′ .ensures) in
     let w3 = several w2 (put2′ .ensures) in

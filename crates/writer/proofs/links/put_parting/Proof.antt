@@ -6,7 +6,9 @@ use Rattle.writer.proofs.links.put_parting.Statement.{statement}
 use Rattle.writer.proofs.links.put_parting.Tie as tie
 
 returns : tie.Need-returns
-returns c = rw (c .if1 .taken) (none (c .before .before .args .out .now) (c .before .before .args .at) (omega (arith, c .before .before .pre)))
+returns c =
+    rw (c .if1 .taken)
+    (none (c .before .before .args .out .now) (c .before .before .args .at) (omega (arith, c .before .before .pre)))
 
 put-two-requires : tie.Need-put-two-requires
 put-two-requires c κs = rw (c .before .if1 .left) at (c .before .before .before .pre)

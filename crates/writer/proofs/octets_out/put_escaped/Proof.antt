@@ -16,7 +16,10 @@ abbrev μ-loop : tie.MeasureT-loop
 μ-loop s a e out₀ at to₀ k₀ out to k = e - k
 
 loop-holds : tie.Need-loop-holds Inv-loop μ-loop
-loop-holds c = start (escapedPart (c .before .before .args .s .now) (c .before .before .args .e)) (c .before .before .args .e) (c .before .before .args .out .now) (c .before .before .args .at) (c .before .before .args .a) (c .before .before .pre .0) (c .before .before .pre .2)
+loop-holds c =
+    start (escapedPart (c .before .before .args .s .now) (c .before .before .args .e)) (c .before .before .args .e)
+    (c .before .before .args .out .now) (c .before .before .args .at) (c .before .before .args .a) (c .before .before .pre .0)
+    (c .before .before .pre .2)
 
 meant-at-requires : tie.Need-meant-at-requires Inv-loop μ-loop
 meant-at-requires c κs = (c .loop-test .taken, c .before .before .before .before .pre .1)
@@ -28,7 +31,8 @@ returns : tie.Need-returns Inv-loop μ-loop
 returns c = ended (c .before .before .before .loop .inv) (escaped-none (c .before .meant-at .ensures) (c .if1 .taken))
 
 shared-slice-read-put-quoted : tie.Need-shared-slice-read-put-quoted Inv-loop μ-loop
-shared-slice-read-put-quoted c = omega (arith, c .before .before .if1 .left, c .before .before .before .before .before .before .before .before .pre .1)
+shared-slice-read-put-quoted c =
+    omega (arith, c .before .before .if1 .left, c .before .before .before .before .before .before .before .before .pre .1)
 
 put-quoted-requires : tie.Need-put-quoted-requires Inv-loop μ-loop
 put-quoted-requires c κs =
@@ -44,7 +48,12 @@ add-k : tie.Need-add-k Inv-loop μ-loop
 add-k c = omega arith
 
 loop-less : tie.Need-loop-less Inv-loop μ-loop
-loop-less c = omega (arith, c .before .before .before .before .before .before .meant-at .ensures .from, c .before .before .before .before .before .before .before .loop-test .taken)
+loop-less c =
+    omega (
+      arith,
+      c .before .before .before .before .before .before .meant-at .ensures .from,
+      c .before .before .before .before .before .before .before .loop-test .taken,
+    )
 
 loop-again : tie.Need-loop-again Inv-loop μ-loop
 loop-again c =

@@ -11,16 +11,26 @@ abbrev μ-loop : tie.MeasureT-loop
 μ-loop s a e out₀ at to₀ k₀ out to k = e - k
 
 loop-holds : tie.Need-loop-holds Inv-loop μ-loop
-loop-holds c = start (part (c .args .s .now) (c .args .e)) (c .args .e) (c .args .out .now) (c .args .at) (c .args .a) (c .pre .0) (c .pre .2)
+loop-holds c =
+    start (part (c .args .s .now) (c .args .e)) (c .args .e) (c .args .out .now) (c .args .at) (c .args .a) (c .pre .0) (c .pre .2)
 
 shared-slice-read-out : tie.Need-shared-slice-read-out Inv-loop μ-loop
 shared-slice-read-out c = omega arith
 
 slice-write-out : tie.Need-slice-write-out Inv-loop μ-loop
-slice-write-out c = slot (c .before .before .loop .inv) (part-next (c .before .before .before .args .s .now) (c .before .before .before .args .e) (c .before .loop-test .taken) (c .before .before .before .pre .1))
+slice-write-out c =
+    slot (c .before .before .loop .inv)
+    (part-next (c .before .before .before .args .s .now) (c .before .before .before .args .e) (c .before .loop-test .taken)
+    (c .before .before .before .pre .1))
 
 add-to : tie.Need-add-to Inv-loop μ-loop
-add-to c = omega (arith, slot (c .before .before .loop .inv) (part-next (c .before .before .before .args .s .now) (c .before .before .before .args .e) (c .before .loop-test .taken) (c .before .before .before .pre .1)))
+add-to c =
+    omega (
+      arith,
+      slot (c .before .before .loop .inv)
+          (part-next (c .before .before .before .args .s .now) (c .before .before .before .args .e) (c .before .loop-test .taken)
+          (c .before .before .before .pre .1)),
+    )
 
 add-k : tie.Need-add-k Inv-loop μ-loop
 add-k c = omega arith
@@ -29,13 +39,19 @@ loop-less : tie.Need-loop-less Inv-loop μ-loop
 loop-less c = omega arith
 
 loop-again : tie.Need-loop-again Inv-loop μ-loop
-loop-again c = step (c .before .before .loop .inv) (part-next (c .before .before .before .args .s .now) (c .before .before .before .args .e) (c .before .loop-test .taken) (c .before .before .before .pre .1)) (c .before .loop-test .taken)
+loop-again c =
+    step (c .before .before .loop .inv)
+    (part-next (c .before .before .before .args .s .now) (c .before .before .before .args .e) (c .before .loop-test .taken)
+    (c .before .before .before .pre .1))
+    (c .before .loop-test .taken)
 
 same-length : tie.Need-same-length Inv-loop μ-loop
 same-length c = c .before .loop .inv .put .lengths
 
 returns : tie.Need-returns Inv-loop μ-loop
-returns c = ended (c .before .loop .inv) (part-end (c .before .before .args .s .now) (c .before .before .args .e) (c .before .loop .inv .inside) (c .loop-test .left))
+returns c =
+    ended (c .before .loop .inv)
+    (part-end (c .before .before .args .s .now) (c .before .before .args .e) (c .before .loop .inv .inside) (c .loop-test .left))
 
 pub put-part-spec : {M : Type 1} → statement M
 put-part-spec =

@@ -15,7 +15,9 @@ put-two-requires c κs =
     let start = c .before .before .before in
     let name = nameOf (start .args .text .now) (toParam (start .args .p)) in
     let value = writtenValue (valueOf (start .args .text .now) (toParam (start .args .p))) in
-    let w = begin (start .args .out .now) (start .args .at) (paramForm (start .args .text .now) (toParam (start .args .p))) (start .pre .2) in
+    let w =
+    begin (start .args .out .now) (start .args .at) (paramForm (start .args .text .now) (toParam (start .args .p))) (start .pre .2)
+    in
     room (59 ∷ 32 ∷ []) (name ++ 61 ∷ value) w
 
 put-folded-requires : tie.Need-put-folded-requires
@@ -25,7 +27,9 @@ put-folded-requires c κs =
     let put-two′ = c .before .before .before .put-two in
     let name = nameOf (start .args .text .now) (toParam (start .args .p)) in
     let value = writtenValue (valueOf (start .args .text .now) (toParam (start .args .p))) in
-    let w = begin (start .args .out .now) (start .args .at) (paramForm (start .args .text .now) (toParam (start .args .p))) (start .pre .2) in
+    let w =
+    begin (start .args .out .now) (start .args .at) (paramForm (start .args .text .now) (toParam (start .args .p))) (start .pre .2)
+    in
     let w1 = several w (put-two′ .ensures) in
     (start .pre .0 .name-span .ordered, start .pre .0 .name-span .inside, room name (61 ∷ value) w1)
 
@@ -36,7 +40,9 @@ put-requires c κs =
     let put-two′ = c .before .before .before .before .before .before .before .put-two in
     let put-folded′ = c .before .before .before .put-folded in
     let name = nameOf (start .args .text .now) (toParam (start .args .p)) in
-    let w = begin (start .args .out .now) (start .args .at) (paramForm (start .args .text .now) (toParam (start .args .p))) (start .pre .2) in
+    let w =
+    begin (start .args .out .now) (start .args .at) (paramForm (start .args .text .now) (toParam (start .args .p))) (start .pre .2)
+    in
     let w1 = several w (put-two′ .ensures) in
     let w2 = several {bs = name} w1 (put-folded′ .ensures) in
     octet-room w2
@@ -44,12 +50,16 @@ put-requires c κs =
 put-value-requires : tie.Need-put-value-requires
 unfolding nameOf
 put-value-requires c κs =
-    let start = c .before .before .before .before .before .before .before .before .before .before .before .before .before .before .before in
+    let start =
+    c .before .before .before .before .before .before .before .before .before .before .before .before .before .before .before
+    in
     let put-two′ = c .before .before .before .before .before .before .before .before .before .before .before .put-two in
     let put-folded′ = c .before .before .before .before .before .before .before .put-folded in
     let put′ = c .before .before .before .put in
     let name = nameOf (start .args .text .now) (toParam (start .args .p)) in
-    let w = begin (start .args .out .now) (start .args .at) (paramForm (start .args .text .now) (toParam (start .args .p))) (start .pre .2) in
+    let w =
+    begin (start .args .out .now) (start .args .at) (paramForm (start .args .text .now) (toParam (start .args .p))) (start .pre .2)
+    in
     let w1 = several w (put-two′ .ensures) in
     let w2 = several {bs = name} w1 (put-folded′ .ensures) in
     let w3 = several w2 (put′ .ensures) in
@@ -61,13 +71,19 @@ same-length c = search needs
 returns : tie.Need-returns
 unfolding nameOf
 returns c =
-    let start = c .before .before .before .before .before .before .before .before .before .before .before .before .before .before .before .before .before .before in
-    let put-two′ = c .before .before .before .before .before .before .before .before .before .before .before .before .before .before .put-two in
+    let start =
+    c .before .before .before .before .before .before .before .before .before .before .before .before .before .before .before .before .before .before
+    in
+    let put-two′ =
+    c .before .before .before .before .before .before .before .before .before .before .before .before .before .before .put-two
+    in
     let put-folded′ = c .before .before .before .before .before .before .before .before .before .before .put-folded in
     let put′ = c .before .before .before .before .before .before .put in
     let put-value′ = c .before .before .put-value in
     let name = nameOf (start .args .text .now) (toParam (start .args .p)) in
-    let w = begin (start .args .out .now) (start .args .at) (paramForm (start .args .text .now) (toParam (start .args .p))) (start .pre .2) in
+    let w =
+    begin (start .args .out .now) (start .args .at) (paramForm (start .args .text .now) (toParam (start .args .p))) (start .pre .2)
+    in
     let w1 = several w (put-two′ .ensures) in
     let w2 = several {bs = name} w1 (put-folded′ .ensures) in
     let w3 = several w2 (put′ .ensures) in

@@ -15,7 +15,14 @@ abbrev μ-loop : tie.MeasureT-loop
 μ-loop text params end out₀ at to₀ p₀ out to p = end .0 - p
 
 loop-holds : tie.Need-loop-holds Inv-loop μ-loop
-loop-holds c = (omega arith, start (paramsLeft (c .before .before .before .args .text .now) (c .before .before .before .args .params .now) (c .before .before .before .args .end .0)) (c .before .before .before .args .end .0) (c .before .before .before .args .out .now) (c .before .before .before .args .at) (c .before .before .before .args .first .0) (c .before .before .before .pre .0 .ordered) (c .before .before .before .pre .2))
+loop-holds c = (
+  omega arith,
+  start
+      (paramsLeft (c .before .before .before .args .text .now) (c .before .before .before .args .params .now)
+      (c .before .before .before .args .end .0))
+      (c .before .before .before .args .end .0) (c .before .before .before .args .out .now) (c .before .before .before .args .at)
+      (c .before .before .before .args .first .0) (c .before .before .before .pre .0 .ordered) (c .before .before .before .pre .2),
+)
 
 param-at-requires : tie.Need-param-at-requires Inv-loop μ-loop
 param-at-requires c κs = omega (arith, c .before .before .before .before .before .before .pre .0 .slots, c .if1 .taken)
@@ -26,11 +33,20 @@ put-param-requires c κs =
     let loop′ = c .before .before .before .before .loop in
     let if1′ = c .before .before .if1 in
     let form = paramForm (start .args .text .now) (toParam (c .before .param-at .result)) in
-    let next-one = params-next (start .pre .0) (loop′ .inv .0) (if1′ .taken) (c .before .param-at .ensures) in
-    (good-next (start .pre .0) (loop′ .inv .0) (if1′ .taken) (c .before .param-at .ensures), start .pre .1, slots (loop′ .inv .1) form (loop′ .p) next-one)
+    let next-one = params-next (start .pre .0) (loop′ .inv .0) (if1′ .taken) (c .before .param-at .ensures) in (
+      good-next (start .pre .0) (loop′ .inv .0) (if1′ .taken) (c .before .param-at .ensures),
+      start .pre .1,
+      slots (loop′ .inv .1) form
+          (loop′ .p) next-one,
+    )
 
 add-p : tie.Need-add-p Inv-loop μ-loop
-add-p c = omega (arith, c .before .before .before .before .before .before .before .before .before .before .before .pre .0 .slots, c .before .before .before .before .before .if1 .taken)
+add-p c =
+    omega (
+      arith,
+      c .before .before .before .before .before .before .before .before .before .before .before .pre .0 .slots,
+      c .before .before .before .before .before .if1 .taken,
+    )
 
 loop-less : tie.Need-loop-less Inv-loop μ-loop
 loop-less c = omega (arith, c .before .before .before .before .before .if1 .taken)
@@ -50,7 +66,8 @@ same-length : tie.Need-same-length Inv-loop μ-loop
 same-length c = c .before .before .loop .inv .1 .put .lengths
 
 returns : tie.Need-returns Inv-loop μ-loop
-returns c = ended (c .before .before .loop .inv .1) (params-end (c .before .before .before .before .before .before .pre .0) (c .if1 .left))
+returns c =
+    ended (c .before .before .loop .inv .1) (params-end (c .before .before .before .before .before .before .pre .0) (c .if1 .left))
 
 pub put-params-spec : {M : Type 1} → statement M
 put-params-spec =
