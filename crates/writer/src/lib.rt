@@ -2,7 +2,7 @@
 // a refusal leaves the buffer as it was.
 ghost use Rattle.outcomes.specs.Usable.{Usable};
 ghost use Rattle.outcomes.specs.Write.{Write};
-ghost use Rattle.table_check.specs.Parts.{tableOf};
+ghost use Rattle.tables.specs.Table.{tableOf};
 ghost use Rattle.writer.specs.Answer.{writeOut};
 use lookup::usable::TableState;
 
