@@ -1,4 +1,4 @@
-// What every lookup asks of a table first.
+// What every entry over a table asks of it first.
 ghost use Rattle.tables.specs.Table.{tableOf};
 ghost use Rattle.lookup.specs.State.{IsState};
 
