@@ -86,7 +86,10 @@ fn values(run: &mut Run, asked: &Asked, links: &[LinkMeaning]) -> Compared<()> {
 
 /// Writes in rooms at, over and under; the form, if the table is accepted.
 fn writes(run: &mut Run, asked: &Asked) -> Compared<Option<Vec<u8>>> {
-    let (number, form) = asked.write(run, LIMIT)?;
+    let (mut number, mut form) = asked.write(run, 200)?;
+    if number == 7 {
+        (number, form) = asked.write(run, LIMIT)?;
+    }
     if number != 0 {
         asked.write(run, 0)?;
         return Ok(None);

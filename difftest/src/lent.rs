@@ -27,19 +27,17 @@ const GUARD: usize = 8;
 
 pub struct Lent<T> {
     all: Vec<T>,
-    room: usize,
-    salt: u64,
+    held: Vec<T>,
 }
 
 impl<T: Pattern> Lent<T> {
     /// Room that holds the pattern.
     pub fn new(room: usize, salt: u64) -> Lent<T> {
-        let all = (0..room + 2 * GUARD).map(|place| T::held(place, salt));
-        Lent {
-            all: all.collect(),
-            room,
-            salt,
-        }
+        let held: Vec<T> = (0..room + 2 * GUARD)
+            .map(|place| T::held(place, salt))
+            .collect();
+        let all = held.clone();
+        Lent { all, held }
     }
 
     /// Room just for these, which it holds.
@@ -50,26 +48,30 @@ impl<T: Pattern> Lent<T> {
     }
 
     pub fn room(&self) -> &[T] {
-        &self.all[GUARD..GUARD + self.room]
+        &self.all[GUARD..self.all.len() - GUARD]
     }
 
     pub fn room_mut(&mut self) -> &mut [T] {
-        &mut self.all[GUARD..GUARD + self.room]
+        let end = self.all.len() - GUARD;
+        &mut self.all[GUARD..end]
     }
 
-    /// Whether the room holds the content at its beginning, and all else, before it, behind it and
-    /// past the room, what it held.
+    /// Whether the room holds the content at its beginning, and all else, before the room, in it and
+    /// behind it, what it held.
     pub fn holds_just(&self, content: &[T]) -> bool {
         let all = std::hint::black_box(&self.all);
-        let used = GUARD..GUARD + content.len();
-        content.len() <= self.room
-            && all.iter().enumerate().all(|(place, &held)| {
-                let was = || T::held(place, self.salt);
-                held == if used.contains(&place) {
-                    content[place - GUARD]
-                } else {
-                    was()
-                }
-            })
+        let end = GUARD + content.len();
+        all[..GUARD] == self.held[..GUARD]
+            && all[GUARD..end] == *content
+            && all[end..] == self.held[end..]
+    }
+
+    /// Where that fails first, from the room's beginning, and what stands there and should.
+    pub fn first_other(&self, content: &[T]) -> Option<(isize, T, T)> {
+        let mut expected = self.held.clone();
+        expected[GUARD..GUARD + content.len()].copy_from_slice(content);
+        let mut places = self.all.iter().zip(&expected);
+        let at = places.position(|(one, other)| one != other)?;
+        Some((at as isize - GUARD as isize, self.all[at], expected[at]))
     }
 }

@@ -8,16 +8,22 @@ pub fn octets(octets: &[u8]) -> String {
     format!("\"{}\"", octets.escape_ascii())
 }
 
-/// A table with everything that is lent of it.
+/// A table with the slots that its counts reach.
 pub fn table(table: RawTable) -> String {
     format!(
-        "text {}, link slots {:?}, parameter slots {:?}, counts {} {}",
+        "text {}, link slots {}, parameter slots {}, counts {} {}",
         octets(table.text),
-        table.links,
-        table.params,
+        slots(table.links, table.link_count.saturating_mul(4)),
+        slots(table.params, table.param_count.saturating_mul(5)),
         table.link_count,
         table.param_count,
     )
+}
+
+/// The first slots, and how many there are in all.
+fn slots(all: &[usize], used: usize) -> String {
+    let used = used.min(all.len());
+    format!("{:?} of {}", &all[..used], all.len())
 }
 
 /// Two answers to one input that aren't equal.

@@ -21,7 +21,7 @@ pub fn equal<T: Debug + PartialEq>(
     })
 }
 
-/// The library's room must hold just what the reference's holds up to those used.
+/// The library's room must hold just what is expected: it used no more, and touched nothing else.
 pub fn equal_rooms<T: Pattern + Debug>(
     asked: impl Fn() -> String,
     what: &str,
@@ -31,9 +31,11 @@ pub fn equal_rooms<T: Pattern + Debug>(
     if library.holds_just(expected) {
         return Ok(());
     }
+    let (place, found, held) = library.first_other(expected).expect("there is one");
+    let used = expected.len();
     Err(Difference {
         asked: asked(),
-        library: format!("{what} {:?}", library.room()),
-        expected: format!("{what} {expected:?}, and past them, round the room, what was held"),
+        library: format!("place {place} of the {what}, of which {used} are used, holds {found:?}"),
+        expected: format!("{held:?} there"),
     })
 }
