@@ -19,9 +19,10 @@ use symbols::{capstan_context, capstan_read, capstan_search, capstan_value, caps
 /// assert_eq!((answer.number, answer.links, links), (0, 1, [1, 2, 0, 0]));
 /// ```
 pub fn read(header: &[u8], links: &mut [usize], params: &mut [usize]) -> ReadAnswer {
-    // SAFETY: each pointer comes with the length of its slice, and so is aligned and good for that
-    // many reads, and writes where the slice is mutable. Mutable slices overlap nothing. The library
-    // keeps no pointer past its return. All this holds of the calls below too.
+    // SAFETY: each pointer comes with the length of its slice, so it isn't null, is aligned, and leads
+    // to that many values that are set. What is written to comes of a mutable slice, so it overlaps
+    // nothing else and no other thread has it. The library keeps no pointer past its return. All this
+    // holds of the calls below too.
     unsafe {
         capstan_read(
             header.as_ptr(),

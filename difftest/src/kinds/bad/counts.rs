@@ -1,6 +1,6 @@
 //! Counts over the rooms, and links' parameters that don't follow on each other up to the count.
 
-use super::edit::insert_param;
+use super::edit::{append, insert_param, set_name};
 use super::Way;
 use crate::numbers::Numbers;
 use crate::tables::Tables;
@@ -83,11 +83,14 @@ fn wrapped_slots(_: &mut Numbers, tables: &mut Tables) {
     assert_eq!(tables.param_count.wrapping_mul(5), 1);
 }
 
-/// The second link's parameters end at 0, counted round, and those of the last at the count.
+/// The second link's parameters end at 0, counted round, and those of the last at the count. Names
+/// may stand again, as the last link has all parameters.
 fn wrapped_sums(_: &mut Numbers, tables: &mut Tables) {
     let round = usize::MAX - tables.links[COUNT] + 1;
     tables.links[4 + COUNT] = round;
     tables.links[2 * 4 + FIRST] = 0;
     tables.links[3 * 4 + FIRST] = 0;
     tables.links[3 * 4 + COUNT] = tables.param_count;
+    let name = append(tables, b"zz");
+    (0..tables.param_count).for_each(|param| set_name(tables, param, name));
 }

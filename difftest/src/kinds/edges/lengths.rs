@@ -1,10 +1,10 @@
 //! Headers, texts and written forms of 8,192 octets, one under and one over.
 
-use super::orders::{expect, Answers, GOOD};
 use crate::ask::ask;
-use crate::compare::Compared;
+use crate::compare::{Asked, Compared};
 use crate::kinds::read_and_ask;
 use crate::run::Run;
+use crate::shown::{self, Difference};
 use crate::tables::Tables;
 
 const LENGTHS: [usize; 3] = [8191, 8192, 8193];
@@ -62,25 +62,32 @@ fn texts(run: &mut Run) -> Compared<()> {
     Ok(())
 }
 
-/// Tables over a short text whose form has each length.
+/// Tables whose form has each length, most of them over a shorter text; and forms so long that their
+/// length, kept in 16 bits, would be a short one.
 fn forms(run: &mut Run) -> Compared<()> {
     for length in LENGTHS {
         for links in [1, 2, 5, 64] {
-            run.case();
-            let tables = form_of(links, length);
-            ask(run, &tables)?;
-            let number = if length > 8192 { 1 } else { 0 };
-            expect(
-                run,
-                &tables,
-                Answers {
-                    write: number,
-                    ..GOOD
-                },
-            )?;
+            compare_form(run, links, length)?;
         }
     }
-    Ok(())
+    compare_form(run, 16, 65_536)?;
+    compare_form(run, 64, 65_636)
+}
+
+fn compare_form(run: &mut Run, links: usize, length: usize) -> Compared<()> {
+    run.case();
+    let tables = form_of(links, length);
+    ask(run, &tables)?;
+    let (number, form) = Asked::new(run, &tables).write(run, 9000)?;
+    let expected = if length > 8192 { (1, 0) } else { (0, length) };
+    if (number, form.len()) == expected {
+        return Ok(());
+    }
+    Err(Difference {
+        asked: format!("write {}", shown::table(tables.raw())),
+        library: format!("{:?}", (number, form.len())),
+        expected: format!("{expected:?}"),
+    })
 }
 
 /// So many links over one target, `<...>; rel=r` parted by `, `, and a last value that fills up.

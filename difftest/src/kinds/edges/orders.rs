@@ -38,16 +38,16 @@ fn read_orders(run: &mut Run) -> Compared<()> {
 /// The numbers that a table gets where nothing is found, no link or parameter is there, and the
 /// output has no room.
 #[derive(Clone, Copy, Debug, PartialEq)]
-pub struct Answers {
-    pub search: usize,
-    pub context: usize,
-    pub value: usize,
-    pub place: usize,
-    pub copy: usize,
-    pub write: usize,
+struct Answers {
+    search: usize,
+    context: usize,
+    value: usize,
+    place: usize,
+    copy: usize,
+    write: usize,
 }
 
-pub const GOOD: Answers = Answers {
+const GOOD: Answers = Answers {
     search: 9,
     context: 8,
     value: 8,
@@ -67,17 +67,15 @@ const fn refused(number: usize) -> Answers {
     }
 }
 
-pub fn expect(run: &mut Run, tables: &Tables, expected: Answers) -> Compared<()> {
+fn expect(run: &mut Run, tables: &Tables, expected: Answers) -> Compared<()> {
     let asked = Asked::new(run, tables);
-    // Only a form that is written is given room.
-    let room = if expected.write == 0 { 9000 } else { 0 };
     let answers = Answers {
         search: asked.search(run, b"")?,
         context: asked.context(run, b"", tables.link_count)?,
         value: asked.value(run, tables.link_count, 9999, 0)?.0,
         place: asked.value(run, 0, 9999, 0)?.0,
         copy: asked.value(run, 0, 0, 0)?.0,
-        write: asked.write(run, room)?.0,
+        write: asked.write(run, 0)?.0,
     };
     if answers == expected {
         return Ok(());
