@@ -18,7 +18,7 @@ pub fn compare(run: &mut Run) -> Compared<()> {
         compare_shape(run, &counts, if case % 10 == 0 { 300 } else { 20 })?;
     }
     // Many parameters whose spans lie on one another: the form is far longer than the text.
-    for (links, params) in [(1, 200), (1, 60), (30, 2), (60, 1), (20, 10), (3, 100)] {
+    for (links, params) in [(1, 600), (1, 60), (200, 3), (60, 1), (20, 10), (3, 100)] {
         compare_shape(run, &vec![params; links], 300)?;
     }
     Ok(())

@@ -12,14 +12,18 @@ pub fn compare(run: &mut Run, program: &Path) -> Compared<()> {
     for input in inputs() {
         run.case();
         let expected = oracle::listing(&input);
-        let (ended, listed) = match output(program, &input) {
-            Ok(output) => (output.status.to_string(), output.stdout),
-            Err(error) => (error.to_string(), vec![]),
+        let (ended, status, listed) = match output(program, &input) {
+            Ok(output) => (
+                output.status.code(),
+                output.status.to_string(),
+                output.stdout,
+            ),
+            Err(error) => (None, error.to_string(), vec![]),
         };
-        if listed != expected.as_bytes() {
+        if ended.is_none() || listed != expected.as_bytes() {
             return Err(Difference {
                 asked: format!("{} with input {}", program.display(), shown::octets(&input)),
-                library: format!("{}, {ended}", shown::octets(&listed)),
+                library: format!("{}, {status}", shown::octets(&listed)),
                 expected: shown::octets(expected.as_bytes()),
             });
         }
