@@ -248,7 +248,8 @@ malformed-first s t bad f Q g =
     let n = length s in
     let (ls, q) = settled t f in
     let st = run rfc8288 (gap []) 0 s in
-    let b = beside-run t (comma-beside st (0 + n) (subst (λ (k : ℕ). settle st k ≡ none) (omega arith) (unsettled s bad))) 0 (suc (0 + n)) in
+    let u : settle st (0 + n) ≡ none = subst (λ (k : ℕ). settle st k ≡ none) (omega arith) (unsettled s bad) in
+    let b = beside-run t (comma-beside st (0 + n) u) 0 (suc (0 + n)) in
     let (ms, r) = settled (s ++ 44 ∷ t) g in
     never
     (sym (beside-end b (length t) (length (s ++ 44 ∷ t)) ls q)
