@@ -1,19 +1,19 @@
 -- What entries answer to one another's results.
-use Prim.Native.Nat.{ℕ, _+_, _*_, _≤_}
+use Prim.Native.Nat.{ℕ, _+_, _*_, _≤_, _<_}
 use native.Mathlib.Omega.{arith}
 use mathlib.Core.Path.{_≡_, refl, sym, ap, ap₂, subst, subst₂, _∙_}
+use mathlib.Core.Logic.{_⊎_, inl, inr}
 use mathlib.Core.List.{List, [], _∷_, _++_, map}
-use lib.ListN.{length, take, drop}
+use lib.ListN.{length, take, drop, length-append}
 use lib.Seq.{take-at, take-append-seam}
 use Rattle.grammar.specs.Link.{Link}
 use Rattle.grammar.specs.Grammar.{rfc8288}
 use Rattle.grammar.specs.Kept.{Reading}
 use Rattle.grammar.specs.Records.{linkRoom, paramRoom, linkRecords, paramRecords, countParams}
-use Rattle.grammar.specs.Place.{Malformed}
+use Rattle.grammar.specs.Place.{Malformed, Place}
 use Rattle.grammar.specs.Join
 use Rattle.grammar.specs.Join.{Padded, padded, join, raiseLinks, raiseParams, Readable}
 use Rattle.grammar.proofs.Editions.{apart8288}
-use Rattle.grammar.proofs.Joined.{joins-malformed}
 use Rattle.grammar.proofs.Joining.{joins}
 use Rattle.tables.specs.Table.{Table}
 use Rattle.tables.specs.Good.{Good}
@@ -23,12 +23,14 @@ use Rattle.tables.proofs.FromReading.{read-good}
 use Rattle.tables.proofs.ReadBack.{read-back, written-tells}
 use Rattle.outcomes.specs.Number.{limit, done, malformedHeader}
 use Rattle.outcomes.specs.Usable.{Refused, long-text, not-good}
+use Rattle.outcomes.specs.Read
 use Rattle.outcomes.specs.Read.{ReadOut, filled, Read, too-long, not-derived, no-link-room, no-param-room, reads}
 use Rattle.outcomes.specs.Copy.{CopyOut}
 use Rattle.outcomes.specs.Write.{Write, writtenForm, refused, no-relation, long-form, no-room, wrote}
+use Rattle.outcomes.proofs.ReadSettled.{read-settled}
 use Rattle.laws.specs.Answers.{
-  ReadAlone,
   Accepted,
+  pads,
   joinOf,
   linksOf,
   paramsOf,
@@ -39,7 +41,9 @@ use Rattle.laws.specs.Answers.{
   JoinAnswers,
   JoinRefuses,
 }
+use Rattle.laws.specs.Answers.{Rejected, brokenJoin, octetsBefore, Shown, JoinRefused}
 use Rattle.laws.specs.Answers.{Wrote, octetsOf, readTable, BackAnswers, WrittenApart}
+use Rattle.laws.proofs.Broken.{padsOf, malformed-among, front, tail, join-at, not-before, at-place}
 
 -- ---- what an answer tells of the input
 
@@ -56,12 +60,32 @@ read-done (no-link-room s r l) e = absurd (omega arith)
 read-done (no-param-room s r l m) e = absurd (omega arith)
 read-done (reads {K = K} s r l m) e = record { links = K; reading = r; is = refl }
 
-read-malformed : {h L P : List ℕ} {out : ReadOut} → Read h L P out → out .number ≡ malformedHeader → Malformed rfc8288 h
+-- it answered 2: the header is malformed, at the place answered
+record Fails (h L P : List ℕ) (out : ReadOut) : Type 0 where
+  malformed : Malformed rfc8288 h
+  place : Place rfc8288 h (out .place)
+  is : out ≡ Read.refused L P malformedHeader (out .place)
+
+read-malformed : {h L P : List ℕ} {out : ReadOut} → Read h L P out → out .number ≡ malformedHeader → Fails h L P out
 read-malformed (too-long l) e = absurd (omega arith)
-read-malformed (not-derived s m p) e = m
+read-malformed (not-derived s m p) e = record { malformed = m; place = p; is = refl }
 read-malformed (no-link-room s r l) e = absurd (omega arith)
 read-malformed (no-param-room s r l m) e = absurd (omega arith)
 read-malformed (reads s r l m) e = absurd (omega arith)
+
+-- a malformed header of at most 8,192 octets answers so
+malformed-read : {h L P : List ℕ} {out : ReadOut} → length h ≤ limit → Malformed rfc8288 h → Read h L P out → Fails h L P out
+malformed-read s m (too-long l) = absurd (omega arith)
+malformed-read s m (not-derived _ _ p) = record { malformed = m; place = p; is = refl }
+malformed-read s m (no-link-room _ d l) = absurd (m (d .links) (d .derived))
+malformed-read s m (no-param-room _ d l k) = absurd (m (d .links) (d .derived))
+malformed-read s m (reads _ d l k) = absurd (m (d .links) (d .derived))
+
+-- reading answers nothing else
+one-answer : {h L P : List ℕ} {out : ReadOut} → Read h L P out → (r : ReadOut) → Read h L P r → r ≡ out
+one-answer {h} {L} {P} {out} a r b =
+    let one = read-settled h L P .2 in
+    one r b ∙ sym (one out a)
 
 -- ---- joining
 
@@ -95,7 +119,7 @@ agrees a =
     }
 
 same-pads : (hs : List Accepted)
-    → map (λ (r : Readable rfc8288). r .pad) (map readable hs) ≡ map (λ (a : Accepted). a .alone .pad) hs
+    → padsOf (map readable hs) ≡ pads hs
 unfolding readable
 same-pads [] = refl
 same-pads (a ∷ hs) = ap (λ (ps : List Padded). a .alone .pad ∷ ps) (same-pads hs)
@@ -125,7 +149,7 @@ same-params k (a ∷ hs) =
     (same-params (k + length (padded (a .alone .pad)) + 1) hs)
 
 pub join-answers : JoinAnswers
-join-answers hs L P short links params =
+join-answers hs L P short links params r a =
     let j = joins rfc8288 apart8288 (map readable hs) in
     let reading : Reading rfc8288 (joinOf hs) (j .links) =
     subst (λ (ps : List Padded). Reading rfc8288 (join ps) (j .links)) (same-pads hs) (j .reads)
@@ -138,22 +162,52 @@ join-answers hs L P short links params =
       sym (j .link-records ∙ same-links 0 0 hs),
       sym (j .param-records ∙ same-params 0 hs),
     )
-    (reads short reading (omega arith) (omega arith))
+    (one-answer (reads short reading (omega arith) (omega arith)) r a)
+
+long-front : (hs : List Accepted) (b : Rejected) → length (front (pads hs) (b .alone .pad .left)) ≡ octetsBefore hs b
+long-front [] b = refl
+long-front (a ∷ hs) b =
+    let p = padded (a .alone .pad) in
+    let f = front (pads hs) (b .alone .pad .left) in
+    omega (arith, length-append p (44 ∷ f), long-front hs b)
 
 pub join-refuses : JoinRefuses
-join-refuses a b bad short L P out r =
-    let f = read-done (a .alone .answered) (a .accepted) in
-    go r (joins-malformed rfc8288 apart8288 (a .alone .pad) (b .pad) (f .links) (f .reading) (read-malformed (b .answered) bad))
+join-refuses hs b gs L P short r a =
+    record {
+      answer = fails .is;
+      not-before = omega (arith, before, not-before (map readable hs) q B (b .alone .out .place) (r .place) (bad .place) place);
+      place = λ c. at-place (map readable hs) q B (b .alone .out .place) (r .place) (bad .place) place (shown c)
+          ∙ ap (λ (n : ℕ). n + b .alone .out .place) before;
+    }
   where
-    s : List ℕ
-    s = join (a .alone .pad ∷ b .pad ∷ [])
+    q : Padded
+    q = b .alone .pad
 
-    go : {out : ReadOut} → Read s L P out → Malformed rfc8288 s → out .number ≡ malformedHeader
-    go (too-long l) m = absurd (omega arith)
-    go (not-derived h d p) m = refl
-    go (no-link-room h d l) m = absurd (m (d .links) (d .derived))
-    go (no-param-room h d l k) m = absurd (m (d .links) (d .derived))
-    go (reads h d l k) m = absurd (m (d .links) (d .derived))
+    B : List ℕ
+    B = q .right ++ tail (pads gs)
+
+    bad : Fails (q .header) (b .alone .linkSlots) (b .alone .paramSlots) (b .alone .out)
+    bad = read-malformed (b .alone .answered) (b .malformed)
+
+    fails : Fails (brokenJoin hs b gs) L P r
+    fails =
+        malformed-read short
+        (subst₂ (λ (ps qs : List Padded). Malformed rfc8288 (join (ps ++ q ∷ qs))) (same-pads hs) (same-pads gs)
+        (malformed-among (map readable hs) q (map readable gs) (bad .malformed))) a
+
+    place : Place rfc8288 (front (padsOf (map readable hs)) (q .left) ++ (q .header ++ B)) (r .place)
+    place =
+        subst (λ (s : List ℕ). Place rfc8288 s (r .place))
+        (join-at (pads hs) q (pads gs)
+        ∙ ap (λ (ps : List Padded). front ps (q .left) ++ (q .header ++ B)) (sym (same-pads hs)))
+        (fails .place)
+
+    before : length (front (padsOf (map readable hs)) (q .left)) ≡ octetsBefore hs b
+    before = ap (λ (ps : List Padded). length (front ps (q .left))) (same-pads hs) ∙ long-front hs b
+
+    shown : Shown b gs → (b .alone .out .place < length (q .header)) ⊎ (B ≡ [])
+    shown (inl l) = inl l
+    shown (inr (e, z)) = inr (ap₂ (λ (x : List ℕ) (ys : List Accepted). x ++ tail (pads ys)) e z)
 
 -- ---- reading back
 
@@ -176,22 +230,21 @@ write-done (no-room u r s l) e = absurd (omega arith)
 write-done {t} (wrote u r s l) e = record { good = u .good; short = s; is = take-append-seam (writtenForm t) _ }
 
 pub back-answers : BackAnswers
-back-answers t w L P links params =
+back-answers t w L P links params r a =
     let d = write-done (w .answered) (w .accepted) in
     let b = read-back t (d .good) in
     let K = b .links in
     let f = writtenForm t in
-    subst
-    (λ (s : List ℕ).
-    (r : ReadOut) × Read s L P r × (r .number ≡ done) × (r .links ≡ t .linkCount) × (r .params ≡ t .paramCount)
-    × (tableMeanings (readTable s r) ≡ tableMeanings t))
-    (sym (d .is)) (
-      filled L P K,
-      reads (d .short) (b .reads) (omega (arith, b .link-count)) (omega (arith, b .param-count)),
-      refl,
-      b .link-count,
-      b .param-count,
-      ap (meanings f) (read-good f K (drop (4 * length K) L) (drop (5 * countParams K) P) (b .reads) .same-links)
+    let read : Read (octetsOf w) L P (filled L P K) =
+    subst (λ (s : List ℕ). Read s L P (filled L P K)) (sym (d .is))
+    (reads (d .short) (b .reads) (omega (arith, b .link-count)) (omega (arith, b .param-count)))
+    in
+    let e : r ≡ filled L P K = one-answer read r a in (
+      ap (λ (o : ReadOut). o .number) e,
+      ap (λ (o : ReadOut). o .links) e ∙ b .link-count,
+      ap (λ (o : ReadOut). o .params) e ∙ b .param-count,
+      ap₂ (λ (s : List ℕ) (o : ReadOut). tableMeanings (readTable s o)) (d .is) e
+          ∙ ap (meanings f) (read-good f K (drop (4 * length K) L) (drop (5 * countParams K) P) (b .reads) .same-links)
           ∙ b .same-meanings,
     )
 

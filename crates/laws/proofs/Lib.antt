@@ -1,4 +1,6 @@
 -- The proofs of the laws over all the definitions.
 pub mod Checked
 pub mod Rows
+pub mod Beside
+pub mod Broken
 pub mod Answers

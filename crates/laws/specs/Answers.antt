@@ -1,6 +1,8 @@
--- What entries answer to one another's results, over the outcomes that they promise.
-use Prim.Native.Nat.{ℕ, _+_, _*_, _≤_}
+-- What entries answer to one another's results, over the outcomes that they promise. Each law speaks of whatever reading answers;
+-- that it answers something, and just one thing, is a law of the outcomes.
+use Prim.Native.Nat.{ℕ, _+_, _*_, _≤_, _<_}
 use mathlib.Core.Path.{_≡_}
+use mathlib.Core.Logic.{_⊎_}
 use mathlib.Core.List.{List, [], _∷_, _++_, map}
 use lib.ListN.{length, take, drop}
 use Rattle.grammar.specs.Records.{linkRoom, paramRoom}
@@ -8,7 +10,7 @@ use Rattle.grammar.specs.Join.{Padded, padded, join, raiseLinks, raiseParams}
 use Rattle.tables.specs.Table.{Table}
 use Rattle.tables.specs.Meaning.{tableMeanings}
 use Rattle.outcomes.specs.Number.{limit, done, malformedHeader}
-use Rattle.outcomes.specs.Read.{ReadOut, Read}
+use Rattle.outcomes.specs.Read.{ReadOut, refused, Read}
 use Rattle.outcomes.specs.Copy.{CopyOut}
 use Rattle.outcomes.specs.Write.{Write}
 
@@ -27,8 +29,11 @@ pub record Accepted : Type 0 where
   pub alone : ReadAlone
   pub accepted : alone .out .number ≡ done
 
+abbrev pub pads : List Accepted → List Padded
+pads hs = map (λ (a : Accepted). a .alone .pad) hs
+
 abbrev pub joinOf : List Accepted → List ℕ
-joinOf hs = join (map (λ (a : Accepted). a .alone .pad) hs)
+joinOf hs = join (pads hs)
 
 -- the records that reading the header alone gave
 abbrev pub linksOf : Accepted → List ℕ
@@ -64,22 +69,48 @@ joinedParams k (a ∷ hs) =
 abbrev pub JoinAnswers : Type 0
 JoinAnswers =
     (hs : List Accepted) (L P : List ℕ) → length (joinOf hs) ≤ limit → linkSum hs ≤ linkRoom L → paramSum hs ≤ paramRoom P
-    → Read (joinOf hs) L P
-    (record {
+    → (r : ReadOut) → Read (joinOf hs) L P r
+    → r
+    ≡ record {
       number = done;
       place = 0;
       links = linkSum hs;
       params = paramSum hs;
       linkSlots = joinedLinks 0 0 hs ++ drop (4 * linkSum hs) L;
       paramSlots = joinedParams 0 hs ++ drop (5 * paramSum hs) P;
-    })
+    }
 
--- an accepted header followed by a malformed one: their join, of at most 8,192 octets, is malformed in whatever tables
+-- a malformed header: reading it answers 2
+pub record Rejected : Type 0 where
+  pub alone : ReadAlone
+  pub malformed : alone .out .number ≡ malformedHeader
+
+-- the join of accepted headers, a malformed one, and accepted ones again
+abbrev pub brokenJoin : List Accepted → Rejected → List Accepted → List ℕ
+brokenJoin hs b gs = join (pads hs ++ b .alone .pad ∷ pads gs)
+
+-- the octets of the join before the malformed header
+abbrev pub octetsBefore : List Accepted → Rejected → ℕ
+octetsBefore [] b = length (b .alone .pad .left)
+octetsBefore (a ∷ hs) b = length (padded (a .alone .pad)) + 1 + octetsBefore hs b
+
+-- The place that it answers alone lies inside it, or no octet of the join stands behind it. (What is behind a header that is cut short
+-- may go on with what that began: blanks do so inside quotes, and the comma in a target.)
+abbrev pub Shown : Rejected → List Accepted → Type 0
+Shown b gs =
+    (b .alone .out .place < length (b .alone .pad .header)) ⊎ ((b .alone .pad .right ≡ []) × (gs ≡ []))
+
+-- number 2, zero counts, the tables as they were; the place is raised by the octets before, or lies behind that
+pub record JoinRefused (hs : List Accepted) (b : Rejected) (gs : List Accepted) (L P : List ℕ) (r : ReadOut) : Type 0 where
+  pub answer : r ≡ refused L P malformedHeader (r .place)
+  pub not-before : octetsBefore hs b + b .alone .out .place ≤ r .place
+  pub place : Shown b gs → r .place ≡ octetsBefore hs b + b .alone .out .place
+
+-- a join with one malformed header among accepted ones, of at most 8,192 octets, is malformed in whatever tables
 abbrev pub JoinRefuses : Type 0
 JoinRefuses =
-    (a : Accepted) (b : ReadAlone) → b .out .number ≡ malformedHeader
-    → length (join (a .alone .pad ∷ b .pad ∷ [])) ≤ limit
-    → (L P : List ℕ) (out : ReadOut) → Read (join (a .alone .pad ∷ b .pad ∷ [])) L P out → out .number ≡ malformedHeader
+    (hs : List Accepted) (b : Rejected) (gs : List Accepted) (L P : List ℕ) → length (brokenJoin hs b gs) ≤ limit
+    → (r : ReadOut) → Read (brokenJoin hs b gs) L P r → JoinRefused hs b gs L P r
 
 -- ---- reading back
 
@@ -109,8 +140,9 @@ readTable s r =
 abbrev pub BackAnswers : Type 0
 BackAnswers =
     (t : Table) (w : Wrote t) (L P : List ℕ) → t .linkCount ≤ linkRoom L → t .paramCount ≤ paramRoom P
-    → (r : ReadOut) × Read (octetsOf w) L P r × (r .number ≡ done) × (r .links ≡ t .linkCount)
-    × (r .params ≡ t .paramCount) × (tableMeanings (readTable (octetsOf w) r) ≡ tableMeanings t)
+    → (r : ReadOut) → Read (octetsOf w) L P r
+    → (r .number ≡ done) × (r .links ≡ t .linkCount) × (r .params ≡ t .paramCount)
+    × (tableMeanings (readTable (octetsOf w) r) ≡ tableMeanings t)
 
 -- tables that differ in their lists of link meanings never share their octets
 abbrev pub WrittenApart : Type 0

@@ -41,13 +41,24 @@ slips =
           reads (1 ∷ 2 ∷ 0 ∷ 1 ∷ []) (4 ∷ 7 ∷ 9 ∷ 20 ∷ 2 ∷ []) (octets "next" ∷ octets "B\tC" ∷ [])
           (writes (octets "<a>; rel=\" NExt b\tc \""));
     }
-    -- links are written behind one another, and a link without `=` gets an empty value
+    -- links are written behind one another, and a parameter without `=` gets an empty value
     ∷ record {
       header = octets "<a>;rel=b;c , ,<d>;rel=e";
       judgement =
           reads (1 ∷ 2 ∷ 0 ∷ 2 ∷ 16 ∷ 17 ∷ 2 ∷ 1 ∷ [])
           (4 ∷ 7 ∷ 8 ∷ 9 ∷ 1 ∷ 10 ∷ 11 ∷ 11 ∷ 11 ∷ 0 ∷ 19 ∷ 22 ∷ 23 ∷ 24 ∷ 1 ∷ []) (octets "b" ∷ [])
           (writes (octets "<a>; rel=b; c=\"\", <d>; rel=e"));
+    }
+    -- a `rel` without a value, with an empty one, or with spaces alone, also escaped ones, holds no relation
+    ∷ record { header = octets "<a>;rel"; judgement = reads (1 ∷ 2 ∷ 0 ∷ 1 ∷ []) (4 ∷ 7 ∷ 7 ∷ 7 ∷ 0 ∷ []) [] (answers 6) }
+    ∷ record { header = octets "<a>;rel=\"\""; judgement = reads (1 ∷ 2 ∷ 0 ∷ 1 ∷ []) (4 ∷ 7 ∷ 9 ∷ 9 ∷ 2 ∷ []) [] (answers 6) }
+    ∷ record {
+      header = octets "<a>;rel=\"  \"";
+      judgement = reads (1 ∷ 2 ∷ 0 ∷ 1 ∷ []) (4 ∷ 7 ∷ 9 ∷ 11 ∷ 2 ∷ []) [] (answers 6);
+    }
+    ∷ record {
+      header = octets "<a>;rel=\"\\ \\ \"";
+      judgement = reads (1 ∷ 2 ∷ 0 ∷ 1 ∷ []) (4 ∷ 7 ∷ 9 ∷ 13 ∷ 2 ∷ []) [] (answers 6);
     }
     -- a later one of a kept name must still be well formed
     ∷ record { header = octets "<a>;rel=b;rel=;"; judgement = malformed 14 }

@@ -27,7 +27,7 @@ pub fn join_answers()
     ensures { λ _. ⌜ JoinAnswers ⌝ }
 {}
 
-// An accepted header followed by a malformed one joins to a malformed header.
+// A join with one malformed header among accepted ones is malformed, at that header's own place, raised, unless it is cut short.
 pub fn join_refuses()
     ensures { λ _. ⌜ JoinRefuses ⌝ }
 {}

@@ -2,7 +2,7 @@
 use Prim.Native.Nat.{ℕ, _*_}
 use native.Mathlib.Omega.{arith}
 use mathlib.Core.Path.{_≡_, refl}
-use mathlib.Core.List.{List, [], _++_}
+use mathlib.Core.List.{List, _++_}
 use lib.ListN.{length, drop}
 use lib.Seq.{drop-at, drop-append-seam}
 use Rattle.grammar.specs.Link.{Link}
@@ -64,7 +64,7 @@ search t q _ (Searching.no-link u f) n = refl
 search t q _ (Searching.found u h e f) n = absurd (n refl)
 
 context : (t : Table) (base : List ℕ) (i : ℕ) (o : Contexts.ContextOut) → Contexts.Context t base i o → (o .number ≡ done → ⊥)
-    → Contexts.handed (t .text) base o ≡ []
+    → o ≡ Contexts.nothing (o .number)
 context t base i _ (Contexts.refused r) n = refl
 context t base i _ (Contexts.no-such-link u h) n = refl
 context t base i _ (Contexts.anchored u h e) n = absurd (n refl)

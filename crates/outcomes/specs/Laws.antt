@@ -1,13 +1,13 @@
 -- Each outcome settles everything.
 use Prim.Native.Nat.{ℕ, _*_}
 use mathlib.Core.Path.{_≡_}
-use mathlib.Core.List.{List, []}
+use mathlib.Core.List.{List}
 use lib.ListN.{drop}
 use Rattle.tables.specs.Table.{Table}
 use Rattle.outcomes.specs.Number.{done, malformedHeader}
 use Rattle.outcomes.specs.Read.{ReadOut, Read}
 use Rattle.outcomes.specs.Search.{SearchOut, Search}
-use Rattle.outcomes.specs.Context.{ContextOut, handed, Context}
+use Rattle.outcomes.specs.Context.{ContextOut, nothing, Context}
 use Rattle.outcomes.specs.Copy.{CopyOut, Copy}
 use Rattle.outcomes.specs.Write.{Write}
 
@@ -32,7 +32,7 @@ pub record Refusals : Type 0 where
   pub read : (h L P : List ℕ) (o : ReadOut) → Read h L P o → ReadKeeps L P o
   pub search : (t : Table) (q : List ℕ) (o : SearchOut) → Search t q o → (o .number ≡ done → ⊥) → o .link ≡ 0
   pub context : (t : Table) (base : List ℕ) (i : ℕ) (o : ContextOut) → Context t base i o → (o .number ≡ done → ⊥)
-      → handed (t .text) base o ≡ []
+      → o ≡ nothing (o .number)
   pub copy : (t : Table) (i j : ℕ) (out : List ℕ) (o : CopyOut) → Copy t i j out o → CopyKeeps out o
   pub write : (t : Table) (out : List ℕ) (o : CopyOut) → Write t out o → CopyKeeps out o
 
