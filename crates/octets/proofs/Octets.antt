@@ -69,7 +69,7 @@ abbrev pub agree : Bool → Bool → Bool
 agree true b = b
 agree false b = not b
 
-agreed : (a b : Bool) → agree a b ≡ true → a ≡ b
+pub agreed : (a b : Bool) → agree a b ≡ true → a ≡ b
 agreed true true e = refl
 agreed true false e = absurd (false≢true e)
 agreed false true e = absurd (false≢true e)
