@@ -7,6 +7,7 @@ use crate::number::DONE;
 use crate::read::ReadAnswer;
 use crate::search::search;
 use crate::value::value;
+use crate::write::write;
 
 const LENGTHS: [usize; 3] = [8191, 8192, 8193];
 /// It has two links and three parameters.
@@ -16,6 +17,7 @@ const ROOMS: [(usize, usize); 6] = [(8, 15), (11, 19), (7, 15), (8, 14), (7, 14)
 const RELATION: &[u8] = b"next";
 const BASE: &[u8] = b"BASE";
 const VALUE_ROOM: usize = 32;
+const WRITTEN_ROOM: usize = 512;
 
 /// The cases of the headers in the input, one a line, and those at the edges
 /// of lengths and rooms.
@@ -65,8 +67,8 @@ fn put_case(
     answer
 }
 
-/// The link that has the relation, the first link's context, and the value of
-/// its first parameter.
+/// The link that has the relation, the first link's context, the value of its
+/// first parameter, and the table's written form.
 fn put_asked(
     out: &mut Vec<u8>,
     text: &[u8],
@@ -94,6 +96,10 @@ fn put_asked(
         &mut room,
     );
     put_octets(out, "value", number, &room[..length]);
+
+    let mut room = [0; WRITTEN_ROOM];
+    let (number, length) = write(text, link_slots, param_slots, links, params, &mut room);
+    put_octets(out, "written", number, &room[..length]);
 }
 
 /// A word, a number, and octets behind their length.

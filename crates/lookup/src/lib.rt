@@ -10,10 +10,10 @@ use kinds::LinkNumber;
 use kinds::Span;
 
 mod anchor;
-mod named;
+pub mod named;
 mod parameter;
 mod relation;
-mod usable;
+pub mod usable;
 
 // What a search answers.
 pub enum SearchAnswer {

@@ -5,6 +5,7 @@ use listing::put_number;
 use lookup::ContextAnswer;
 use lookup::SearchAnswer;
 use lookup::ValueAnswer;
+use writer::WriteAnswer;
 
 // An answer's number, and the octets that it hands back.
 fn put_octets(number: usize, octets: &[u8]) {
@@ -73,10 +74,25 @@ fn value(text: &[u8], links: &[usize], params: &[usize], n: usize, m: usize, out
     }
 }
 
-// Asks for the relation `next`, for the first link's context, and for its first parameter's value in 32 octets.
+// The table in its written form.
+fn written(text: &[u8], links: &[usize], params: &[usize], n: usize, m: usize, out: &mut [u8]) {
+    io::write_all(1, b"written");
+    match writer::write(text, links, params, n, m, out) {
+        WriteAnswer::Written(k) => put_octets(0, &out[..k]),
+        WriteAnswer::TooLong => put_octets(1, b""),
+        WriteAnswer::BadTable => put_octets(5, b""),
+        WriteAnswer::NoRelation => put_octets(6, b""),
+        WriteAnswer::NoOutputRoom => put_octets(7, b""),
+    }
+}
+
+// Asks for the relation `next`, for the first link's context, for its first parameter's value in 32 octets, and for the written form
+// in 512.
 pub fn all(text: &[u8], links: &[usize], params: &[usize], n: usize, m: usize) {
     search(text, links, params, n, m);
     context(text, b"BASE", links, params, n, m);
     let mut out = [0u8; 32];
     value(text, links, params, n, m, &mut out);
+    let mut form = [0u8; 512];
+    written(text, links, params, n, m, &mut form);
 }

@@ -19,11 +19,18 @@ enum-known-k : tie.Need-enum-known-k
 enum-known-k c = search needs
 
 slice-reshare-prefix-put-octets : tie.Need-slice-reshare-prefix-put-octets
-slice-reshare-prefix-put-octets c = copied-fits (c .before .before .before .before .before .value .last .1 .1 .1 .1 .1 .1 .1 .0) (c .before .before .before .before .before .value .ensures) (c .before .k .given .1)
+slice-reshare-prefix-put-octets c =
+    copied-fits (c .before .before .before .before .before .value .last .1 .1 .1 .1 .1 .1 .1 .0)
+    (c .before .before .before .before .before .value .ensures) (c .before .k .given .1)
 
 slice-aggregate-put-octets : tie.Need-slice-aggregate-put-octets
 slice-aggregate-put-octets c =
-    simp length-take (omega (arith, copied-fits (c .before .before .before .before .before .before .value .last .1 .1 .1 .1 .1 .1 .1 .0) (c .before .before .before .before .before .before .value .ensures) (c .before .before .k .given .1)))
+    simp length-take
+    (omega (
+      arith,
+      copied-fits (c .before .before .before .before .before .before .value .last .1 .1 .1 .1 .1 .1 .1 .0)
+          (c .before .before .before .before .before .before .value .ensures) (c .before .before .k .given .1),
+    ))
 
 put-octets-requires : tie.Need-put-octets-requires
 put-octets-requires c κs = search needs

@@ -1,0 +1,2 @@
+-- Laws of the entries for C.
+pub mod Handed

@@ -1,0 +1,23 @@
+-- The answer's numbers.
+use borrow.Author.Needs.{needs}
+use Rattle.capi.proofs.read.capstan_read.Statement.{statement}
+use Rattle.capi.proofs.read.capstan_read.Tie as tie
+
+read-requires : tie.Need-read-requires
+read-requires c κs = search needs
+
+numbers-of-requires : tie.Need-numbers-of-requires
+numbers-of-requires c κs = search needs
+
+same-length : tie.Need-same-length
+same-length c = search needs
+
+same-length-2 : tie.Need-same-length-2
+same-length-2 c = search needs
+
+returns : tie.Need-returns
+returns c = rw (c .numbers-of .ensures _ _) (c .before .before .before .before .before .read .ensures)
+
+pub capstan-read-spec : {M : Type 1} → statement M
+capstan-read-spec =
+    tie.close (tie.spec read-requires numbers-of-requires same-length same-length-2 returns)

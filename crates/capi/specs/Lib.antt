@@ -1,0 +1,3 @@
+-- What the numbers that C gets stand for.
+pub mod Answers
+pub mod Part

@@ -1,0 +1,20 @@
+-- One store.
+use Rattle.writer.proofs.Putting.{one}
+use borrow.Author.Needs.{needs}
+use Rattle.writer.proofs.octets_out.put.Statement.{statement}
+use Rattle.writer.proofs.octets_out.put.Tie as tie
+
+slice-write-out : tie.Need-slice-write-out
+slice-write-out c = search needs
+
+add-result : tie.Need-add-result
+add-result c = search needs
+
+same-length : tie.Need-same-length
+same-length c = search needs
+
+returns : tie.Need-returns
+returns c = one (c .args .out .now) (c .args .at) (c .args .c) (c .pre)
+
+pub put-spec : {M : Type 1} → statement M
+put-spec = tie.close (tie.spec slice-write-out add-result same-length returns)

@@ -1,0 +1,34 @@
+-- The written forms of records, and of the records that are left of a table.
+use Prim.Native.Nat.{ℕ, _*_, _≤_, _<_}
+use mathlib.Core.Bool.{Bool, true, false, cond}
+use mathlib.Core.List.{List, [], _∷_, _++_, map}
+use lib.ListN.{length}
+use Rattle.grammar.specs.Link.{Link, Param}
+use Rattle.tables.specs.Table.{paramAt}
+use Rattle.tables.specs.Good.{GoodParam}
+use Rattle.tables.specs.Meaning.{paramMeaning, linkMeaning}
+use Rattle.tables.specs.Written.{writtenParam, writtenParams, writtenLink}
+
+abbrev pub paramForm : List ℕ → Param → List ℕ
+paramForm s p = writtenParam (paramMeaning s p)
+
+abbrev pub paramsForm : List ℕ → List Param → List ℕ
+paramsForm s ps = writtenParams (map (paramMeaning s) ps)
+
+abbrev pub linkForm : List ℕ → Link → List ℕ
+linkForm s l = writtenLink (linkMeaning s l)
+
+-- comma and one space, before every link but the first
+abbrev pub parting : Bool → List ℕ
+parting first = cond first [] (44 ∷ 32 ∷ [])
+
+-- links, each behind what parts it from the link before
+abbrev pub linksForm : List ℕ → Bool → List Link → List ℕ
+linksForm s first [] = []
+linksForm s first (l ∷ ls) = parting first ++ (linkForm s l ++ linksForm s false ls)
+
+-- the parameter records from number p up to `end` lie in the slots P, and are good
+pub record GoodRun (s P : List ℕ) (p end : ℕ) : Type 0 where
+  pub ordered : p ≤ end
+  pub slots : 5 * end ≤ length P
+  pub good : (j : ℕ) → p ≤ j → j < end → GoodParam s (paramAt P j)

@@ -1,0 +1,59 @@
+// Whether the links have relations.
+ghost use mathlib.Core.Path.{_≡_};
+ghost use mathlib.Core.Bool.{not};
+ghost use Prim.Native.Nat.{_<_};
+ghost use Rattle.outcomes.specs.Usable.{Usable};
+ghost use Rattle.outcomes.specs.Write.{relationsAt};
+ghost use Rattle.table_check.specs.Parts.{tableOf};
+ghost use Rattle.values.specs.Runs.{isNone};
+ghost use Rattle.writer.specs.Tells.{Tells};
+use kinds::LinkNumber;
+use kinds::ParamNumber;
+use lookup::named::is_rel;
+use values::runs::has_runs;
+
+// Whether a link has a relation: its first `rel` is asked, and no other.
+fn is_related(
+    text: &[u8],
+    links: &[usize],
+    params: &[usize],
+    link_count: usize,
+    param_count: usize,
+    link: LinkNumber,
+) -> bool
+    requires { ⌜ Usable (tableOf (now text) (now links) (now params) «link_count» «param_count») × (link .0 < «link_count») ⌝ }
+    ensures { λ r. ⌜ r ≡ not (isNone (relationsAt (tableOf (now (text .entry)) (now (links .entry)) (now (params .entry)) «link_count» «param_count») (link .0))) ⌝ }
+{
+    let l = kinds::link_at(links, link);
+    let mut p = l.first.0;
+    let end = p + l.count;
+    while p < end {
+        let param = kinds::param_at(params, ParamNumber(p));
+        if is_rel(text, param) {
+            return has_runs(text, param.value.from.0, param.value.to.0);
+        }
+        p += 1;
+    }
+    false
+}
+
+// Whether every link has a relation.
+pub fn all_related(
+    text: &[u8],
+    links: &[usize],
+    params: &[usize],
+    link_count: usize,
+    param_count: usize,
+) -> bool
+    requires { ⌜ Usable (tableOf (now text) (now links) (now params) «link_count» «param_count») ⌝ }
+    ensures { λ r. ⌜ Tells (tableOf (now (text .entry)) (now (links .entry)) (now (params .entry)) «link_count» «param_count») r ⌝ }
+{
+    let mut i = 0;
+    while i < link_count {
+        if !is_related(text, links, params, link_count, param_count, LinkNumber(i)) {
+            return false;
+        }
+        i += 1;
+    }
+    true
+}

@@ -1,0 +1,76 @@
+// How a value is written: bare or in quotes, and in how many octets.
+ghost use mathlib.Core.Path.{_≡_};
+ghost use Prim.Native.Nat.{_*_, _≤_};
+ghost use lib.ListN.{length};
+ghost use Rattle.kinds.specs.Slots.{toParam};
+ghost use Rattle.outcomes.specs.Number.{limit};
+ghost use Rattle.tables.specs.Good.{GoodParam};
+ghost use Rattle.tables.specs.Meaning.{valueOf};
+ghost use Rattle.values.specs.Rest.{rest};
+ghost use Rattle.writer.specs.Shape.{IsShape, shapeFor, escapedLen};
+use kinds::ParamRecord;
+use octets::sets::is_token;
+use values::meaning::meant_at;
+
+pub struct Shape {
+    pub bare: bool,
+    pub len: usize,
+}
+
+// The shape of a value that has n octets with its backslashes, and whose octets are all token octets or not.
+fn shape_for(n: usize, tokens: bool) -> Shape
+    requires { ⌜ n ≤ 2 * limit ⌝ }
+    ensures { λ r. ⌜ r ≡ shapeFor n tokens ⌝ }
+{
+    if (n > 0) & tokens {
+        return Shape { bare: true, len: n };
+    }
+    Shape {
+        bare: false,
+        len: n + 2,
+    }
+}
+
+// How many octets an octet takes in a quoted string.
+fn escaped_len(c: u8) -> usize
+    ensures { λ r. ⌜ r ≡ escapedLen c ⌝ }
+{
+    if (c == b'"') | (c == b'\\') { 2 } else { 1 }
+}
+
+// The shape of what the part from a to e means.
+fn shape_of(s: &[u8], a: usize, e: usize) -> Shape
+    requires { ⌜ (a ≤ e) × (e ≤ length (now s)) × (length (now s) ≤ limit) ⌝ }
+    ensures { λ r. ⌜ IsShape (rest (now (s .entry)) e a) r ⌝ }
+{
+    let mut n = 0;
+    let mut tokens = true;
+    let mut k = a;
+    while k < e {
+        let p = meant_at(s, k, e);
+        if p >= e {
+            return shape_for(n, tokens);
+        }
+        let c = s[p];
+        n += escaped_len(c);
+        tokens = tokens & is_token(c);
+        k = p + 1;
+    }
+    shape_for(n, tokens)
+}
+
+// The shape of a parameter's value. A token stands bare as it is, which need not be looked at again.
+pub fn value_shape(text: &[u8], p: ParamRecord) -> Shape
+    requires { ⌜ GoodParam (now text) (toParam p) × (length (now text) ≤ limit) ⌝ }
+    ensures { λ r. ⌜ IsShape (valueOf (now (text .entry)) (toParam p)) r ⌝ }
+{
+    let a = p.value.from.0;
+    let e = p.value.to.0;
+    if p.form == 1 {
+        return Shape {
+            bare: true,
+            len: e - a,
+        };
+    }
+    shape_of(text, a, e)
+}

@@ -1,0 +1,64 @@
+/* Finds the next and the previous pack in the Link header of a dialogue pack: pack_links [HEADER] */
+#include "capstan.h"
+
+#include <stdio.h>
+#include <string.h>
+
+/* Room for 32 links and 128 parameters. */
+enum { LINK_SLOTS = 32 * CAPSTAN_LINK_SLOTS, PARAM_SLOTS = 128 * CAPSTAN_PARAM_SLOTS };
+
+static const char sample[] = "</packs/6>; rel=prev, </packs/8>; rel=\"next last\"; title=\"Harbour, part 3\"";
+
+static const uint8_t *text;
+static size_t text_len;
+static size_t links[LINK_SLOTS];
+static size_t params[PARAM_SLOTS];
+static capstan_read_answer table;
+
+static void print_part(size_t start, size_t end)
+{
+    fwrite(text + start, 1, end - start, stdout);
+}
+
+/* Prints the target of the first link that has the relation, and what it is a link of if that is not the pack itself. */
+static void print_link(const char *relation)
+{
+    capstan_search_answer found = capstan_search(text, text_len, links, LINK_SLOTS, params, PARAM_SLOTS, table.links, table.params,
+                                                 (const uint8_t *)relation, strlen(relation));
+    if (found.number != CAPSTAN_DONE) {
+        printf("%s: none\n", relation);
+        return;
+    }
+    const size_t *link = links + CAPSTAN_LINK_SLOTS * found.link;
+    printf("%s: ", relation);
+    print_part(link[0], link[1]);
+
+    const uint8_t *base = text; /* the pack's own address would stand here; this program has none, and passes no octets of it */
+    capstan_context_answer context = capstan_context(text, text_len, base, 0, links, LINK_SLOTS, params, PARAM_SLOTS, table.links,
+                                                     table.params, found.link);
+    if (context.source == CAPSTAN_TEXT) {
+        printf(", a link of <");
+        print_part(context.start, context.end);
+        putchar('>');
+    }
+    putchar('\n');
+}
+
+int main(int argc, char **argv)
+{
+    if (argc > 2) {
+        fprintf(stderr, "pack_links: one header is read, and %d were given\n", argc - 1);
+        return 2;
+    }
+    const char *header = argc > 1 ? argv[1] : sample;
+    text = (const uint8_t *)header;
+    text_len = strlen(header);
+    table = capstan_read(text, text_len, links, LINK_SLOTS, params, PARAM_SLOTS);
+    if (table.number != CAPSTAN_DONE) {
+        fprintf(stderr, "pack_links: the header is refused with number %zu at place %zu\n", table.number, table.place);
+        return 1;
+    }
+    print_link("next");
+    print_link("prev");
+    return 0;
+}

@@ -1,0 +1,131 @@
+/*
+ * Reads, searches and writes HTTP Link field values (RFC 8288).
+ *
+ * Every function is proved to answer just as the rules settle it, for every input. It allocates nothing, keeps nothing between calls,
+ * calls nothing of the C library, and may run on several threads at once. Link with libcapi.a, which ./build-library puts beside this
+ * file (Linux on x86-64).
+ *
+ * What a caller must hold, since nothing checks it:
+ *
+ * - A pointer is not null, also where its count is 0 (the address of any object will do then), and is aligned for its type.
+ * - It points to at least as many elements as the count behind it says. Those that are read have been set to some value; the slots of
+ *   tables that reading is to fill, too.
+ * - What a function writes to (`links` and `params` of capstan_read, `out`) overlaps no other argument.
+ * - No other thread writes to an argument, or reads one that is written to, while the call runs.
+ *
+ * Tables. A link record is CAPSTAN_LINK_SLOTS numbers: target start, target end, number of its first parameter, count of its
+ * parameters. A parameter record is CAPSTAN_PARAM_SLOTS numbers: name start, name end, value start, value end, form. Places are
+ * octets of the text, counted from 0, and an end is one past the last octet. Form 0 is no value, 1 a token, and 2 a quoted string,
+ * whose span lies inside the quotes with its backslashes still there. Counts of slots may be anything; the room is that count divided
+ * by 4 or by 5, rounded down.
+ *
+ * Numbers. Each answer begins with one; the other numbers of a refusal are 0, except the place with CAPSTAN_MALFORMED, and a refusal
+ * leaves every slot and octet lent as it was. After success, slots and octets past those used hold what they held.
+ *
+ * The functions over a table take its text, its slots and its counts as capstan_read was given and answered them. They check all of
+ * it: tables of any other making are used if they are good, and refused with CAPSTAN_BAD_TABLE if they are not.
+ */
+#ifndef CAPSTAN_H
+#define CAPSTAN_H
+
+#include <stddef.h>
+#include <stdint.h>
+
+#ifdef __cplusplus
+extern "C" {
+#endif
+
+/* The most octets of a header, a text or a written form. */
+#define CAPSTAN_LIMIT 8192
+
+/* The numbers of one link record, and of one parameter record. */
+#define CAPSTAN_LINK_SLOTS 4
+#define CAPSTAN_PARAM_SLOTS 5
+
+enum {
+    CAPSTAN_DONE = 0,
+    CAPSTAN_TOO_LONG = 1,       /* the header, the text or the written form is over CAPSTAN_LIMIT octets */
+    CAPSTAN_MALFORMED = 2,      /* the grammar doesn't derive the header */
+    CAPSTAN_NO_LINK_ROOM = 3,   /* more links than room */
+    CAPSTAN_NO_PARAM_ROOM = 4,  /* more kept parameters than room */
+    CAPSTAN_BAD_TABLE = 5,      /* the text, the tables and the counts don't fit each other */
+    CAPSTAN_NO_RELATION = 6,    /* a link to be written has no `rel`, or one with no relations */
+    CAPSTAN_NO_OUTPUT_ROOM = 7, /* the output buffer is shorter than the result */
+    CAPSTAN_NO_SUCH_LINK = 8,   /* the link number is not below the count */
+    CAPSTAN_NOT_FOUND = 9       /* no such parameter, or no link has the relation */
+};
+
+/* The forms of a parameter's value. */
+enum {
+    CAPSTAN_NO_VALUE = 0,
+    CAPSTAN_TOKEN = 1,
+    CAPSTAN_QUOTED = 2
+};
+
+/* Where a context lies. */
+enum {
+    CAPSTAN_NO_SOURCE = 0,
+    CAPSTAN_TEXT = 1,
+    CAPSTAN_BASE = 2
+};
+
+typedef struct { size_t number, place, links, params; } capstan_read_answer;
+typedef struct { size_t number, link; } capstan_search_answer;
+typedef struct { size_t number, source, start, end; } capstan_context_answer; /* source 1: text, 2: base; refused: 0, 0, 0 */
+typedef struct { size_t number, length; } capstan_length_answer;
+
+/*
+ * Reads a header, which is the field value without the field's name and colon, into the tables `links` and `params`.
+ *
+ * Answers the counts of links and of kept parameters; of `rel`, `anchor`, `media`, `title`, `title*` and `type` a link keeps the
+ * first only. A malformed header is refused with its place: how many octets stand in its longest prefix that begins some well formed
+ * header.
+ * Numbers, in the order in which they are tested: CAPSTAN_TOO_LONG, CAPSTAN_MALFORMED, CAPSTAN_NO_LINK_ROOM, CAPSTAN_NO_PARAM_ROOM.
+ */
+capstan_read_answer capstan_read(const uint8_t *header, size_t header_len, size_t *links, size_t link_slots, size_t *params,
+                                 size_t param_slots);
+
+/*
+ * Answers the lowest number of a link that has the relation. Relations compare with A to Z taken for a to z, and with the backslashes
+ * of a quoted `rel` taken out. An empty query, or one with a space, matches nothing.
+ * Numbers, in order: CAPSTAN_TOO_LONG, CAPSTAN_BAD_TABLE, CAPSTAN_NOT_FOUND.
+ */
+capstan_search_answer capstan_search(const uint8_t *text, size_t text_len, const size_t *links, size_t link_slots,
+                                     const size_t *params, size_t param_slots, size_t link_count, size_t param_count,
+                                     const uint8_t *relation, size_t relation_len);
+
+/*
+ * Answers where the context of link number `link` lies: its `anchor` value as written, with source CAPSTAN_TEXT, also where that is
+ * empty; else the whole base, with source CAPSTAN_BASE. Start and end are octet places there, start at most end. The octets of the
+ * base are not read.
+ * Numbers, in order: CAPSTAN_TOO_LONG, CAPSTAN_BAD_TABLE, CAPSTAN_NO_SUCH_LINK.
+ */
+capstan_context_answer capstan_context(const uint8_t *text, size_t text_len, const uint8_t *base, size_t base_len,
+                                       const size_t *links, size_t link_slots, const size_t *params, size_t param_slots,
+                                       size_t link_count, size_t param_count, size_t link);
+
+/*
+ * Writes the meaning of a parameter's value to `out`, and answers its length: the value with the backslashes of a quoted string taken
+ * out. The parameter is the one at `place` within link number `link`, counted from 0.
+ * Numbers, in order: CAPSTAN_TOO_LONG, CAPSTAN_BAD_TABLE, CAPSTAN_NO_SUCH_LINK, CAPSTAN_NOT_FOUND, CAPSTAN_NO_OUTPUT_ROOM.
+ */
+capstan_length_answer capstan_value(const uint8_t *text, size_t text_len, const size_t *links, size_t link_slots,
+                                    const size_t *params, size_t param_slots, size_t link_count, size_t param_count, size_t link,
+                                    size_t place, uint8_t *out, size_t out_len);
+
+/*
+ * Writes a table to `out` as a header in one fixed form, and answers its length. Links are parted by a comma and a space; each is its
+ * target in `<` and `>`, and for each parameter `;`, a space, the name in small letters, `=`, and the value, which stands bare if it is
+ * a token and else in quotes. Reading the octets written gives the same links with the same meanings.
+ * Numbers, in order: CAPSTAN_TOO_LONG (the text), CAPSTAN_BAD_TABLE, CAPSTAN_NO_RELATION, CAPSTAN_TOO_LONG (the written form),
+ * CAPSTAN_NO_OUTPUT_ROOM.
+ */
+capstan_length_answer capstan_write(const uint8_t *text, size_t text_len, const size_t *links, size_t link_slots,
+                                    const size_t *params, size_t param_slots, size_t link_count, size_t param_count, uint8_t *out,
+                                    size_t out_len);
+
+#ifdef __cplusplus
+}
+#endif
+
+#endif
