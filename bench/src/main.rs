@@ -37,7 +37,7 @@ fn main() {
     asked().for_each(|(sample, table)| write(sample.name, table));
     write("60 links that share spans", &shared_spans());
 
-    println!();
+    println!("\nGrowth with the length, on links of one kind:\n");
     println!("| Octets | read, ns an octet | Table loop, ns an octet | Times the table loop |");
     println!("|---:|---:|---:|---:|");
     [512, 1024, 2048, 4096, 8192]
