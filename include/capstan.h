@@ -1,29 +1,33 @@
 /*
  * Reads, searches and writes HTTP Link field values (RFC 8288).
  *
- * Every function is proved to answer just as the rules settle it, for every input. It allocates nothing, keeps nothing between calls,
- * calls nothing of the C library, and may run on several threads at once. Link with libcapi.a, which ./build-library puts beside this
- * file (Linux on x86-64).
+ * Every function is proved to answer as the definitions in crates/outcomes/specs settle it, for every input. It allocates nothing, keeps
+ * nothing between calls, calls nothing of the C library, and may run on several threads at once. Link with libcapi.a, which
+ * ./build-library puts beside this file (Linux on x86-64). Octets may be any, NUL too; no text ends with one.
  *
  * What a caller must hold, since nothing checks it:
  *
  * - A pointer is not null, also where its count is 0 (the address of any object will do then), and is aligned for its type.
- * - It points to at least as many elements as the count behind it says. Those that are read have been set to some value; the slots of
- *   tables that reading is to fill, too.
+ * - It points to at least as many elements as the count behind it says. All of them have been set to some value, also the slots that
+ *   reading is to fill and the octets of `out`.
  * - What a function writes to (`links` and `params` of capstan_read, `out`) overlaps no other argument.
  * - No other thread writes to an argument, or reads one that is written to, while the call runs.
  *
  * Tables. A link record is CAPSTAN_LINK_SLOTS numbers: target start, target end, number of its first parameter, count of its
  * parameters. A parameter record is CAPSTAN_PARAM_SLOTS numbers: name start, name end, value start, value end, form. Places are
- * octets of the text, counted from 0, and an end is one past the last octet. Form 0 is no value, 1 a token, and 2 a quoted string,
- * whose span lies inside the quotes with its backslashes still there. Counts of slots may be anything; the room is that count divided
- * by 4 or by 5, rounded down.
+ * octets of the text, counted from 0, and an end is one past the last octet. Form 0 is no value, whose places both are the name's end,
+ * 1 a token, and 2 a quoted string, whose span lies inside the quotes with its backslashes still there. The room is the count of slots
+ * divided by 4 or by 5, rounded down. No header has more than 2,731 links, nor more than 4,095 parameters.
  *
  * Numbers. Each answer begins with one; the other numbers of a refusal are 0, except the place with CAPSTAN_MALFORMED, and a refusal
  * leaves every slot and octet lent as it was. After success, slots and octets past those used hold what they held.
  *
  * The functions over a table take its text, its slots and its counts as capstan_read was given and answered them. They check all of
- * it: tables of any other making are used if they are good, and refused with CAPSTAN_BAD_TABLE if they are not.
+ * it: tables of any other making are used if they are good, and refused with CAPSTAN_BAD_TABLE if they are not. A table is good if the
+ * counts fit the rooms; the first link's parameters begin at number 0, each later link's where the former's end, and the last ends at
+ * the count; every span lies in the text, start at most end; targets, names and values are what the RFC's grammar derives for them and
+ * the form is 0, 1 or 2; and no link has two parameters of one of the names `rel`, `anchor`, `media`, `title`, `title*` and `type`.
+ * Spans may overlap or stand in any order.
  */
 #ifndef CAPSTAN_H
 #define CAPSTAN_H
@@ -48,7 +52,7 @@ enum {
     CAPSTAN_MALFORMED = 2,      /* the grammar doesn't derive the header */
     CAPSTAN_NO_LINK_ROOM = 3,   /* more links than room */
     CAPSTAN_NO_PARAM_ROOM = 4,  /* more kept parameters than room */
-    CAPSTAN_BAD_TABLE = 5,      /* the text, the tables and the counts don't fit each other */
+    CAPSTAN_BAD_TABLE = 5,      /* the table is not good */
     CAPSTAN_NO_RELATION = 6,    /* a link to be written has no `rel`, or one with no relations */
     CAPSTAN_NO_OUTPUT_ROOM = 7, /* the output buffer is shorter than the result */
     CAPSTAN_NO_SUCH_LINK = 8,   /* the link number is not below the count */
@@ -79,15 +83,16 @@ typedef struct { size_t number, length; } capstan_length_answer;
  *
  * Answers the counts of links and of kept parameters; of `rel`, `anchor`, `media`, `title`, `title*` and `type` a link keeps the
  * first only. A malformed header is refused with its place: how many octets stand in its longest prefix that begins some well formed
- * header.
+ * header. One that is cut short has its own length as place.
  * Numbers, in the order in which they are tested: CAPSTAN_TOO_LONG, CAPSTAN_MALFORMED, CAPSTAN_NO_LINK_ROOM, CAPSTAN_NO_PARAM_ROOM.
  */
 capstan_read_answer capstan_read(const uint8_t *header, size_t header_len, size_t *links, size_t link_slots, size_t *params,
                                  size_t param_slots);
 
 /*
- * Answers the lowest number of a link that has the relation. Relations compare with A to Z taken for a to z, and with the backslashes
- * of a quoted `rel` taken out. An empty query, or one with a space, matches nothing.
+ * Answers the lowest number of a link that has the relation. A link's relations are what stands between the spaces of its `rel` value;
+ * they compare with A to Z taken for a to z, and with the backslashes of a quoted `rel` taken out. An empty query, or one with a space,
+ * matches nothing.
  * Numbers, in order: CAPSTAN_TOO_LONG, CAPSTAN_BAD_TABLE, CAPSTAN_NOT_FOUND.
  */
 capstan_search_answer capstan_search(const uint8_t *text, size_t text_len, const size_t *links, size_t link_slots,
@@ -106,7 +111,8 @@ capstan_context_answer capstan_context(const uint8_t *text, size_t text_len, con
 
 /*
  * Writes the meaning of a parameter's value to `out`, and answers its length: the value with the backslashes of a quoted string taken
- * out. The parameter is the one at `place` within link number `link`, counted from 0.
+ * out. The parameter is the one at `place` within link number `link`, counted from 0. A parameter without a value has length 0. Room for
+ * the value's span is always enough.
  * Numbers, in order: CAPSTAN_TOO_LONG, CAPSTAN_BAD_TABLE, CAPSTAN_NO_SUCH_LINK, CAPSTAN_NOT_FOUND, CAPSTAN_NO_OUTPUT_ROOM.
  */
 capstan_length_answer capstan_value(const uint8_t *text, size_t text_len, const size_t *links, size_t link_slots,
@@ -116,7 +122,8 @@ capstan_length_answer capstan_value(const uint8_t *text, size_t text_len, const 
 /*
  * Writes a table to `out` as a header in one fixed form, and answers its length. Links are parted by a comma and a space; each is its
  * target in `<` and `>`, and for each parameter `;`, a space, the name in small letters, `=`, and the value, which stands bare if it is
- * a token and else in quotes. Reading the octets written gives the same links with the same meanings.
+ * a token, and else in quotes with a backslash before each quote and backslash. No links are no octets. Reading the octets written gives
+ * the same links with the same meanings. CAPSTAN_LIMIT octets of room are always enough.
  * Numbers, in order: CAPSTAN_TOO_LONG (the text), CAPSTAN_BAD_TABLE, CAPSTAN_NO_RELATION, CAPSTAN_TOO_LONG (the written form),
  * CAPSTAN_NO_OUTPUT_ROOM.
  */

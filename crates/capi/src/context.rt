@@ -3,7 +3,7 @@ ghost use Prim.Native.Nat.{ℕ};
 ghost use mathlib.Core.Path.{_≡_};
 ghost use mathlib.Core.List.{List};
 ghost use lib.ListN.{length};
-ghost use Rattle.table_check.specs.Parts.{tableOf};
+ghost use Rattle.tables.specs.Table.{tableOf};
 ghost use Rattle.lookup.specs.Answers as lookup;
 ghost use Rattle.capi.specs.Part.{contextNumbers, IsContext};
 use crate::number;

@@ -1,4 +1,4 @@
-// The entries for C. Each asks the library's entry of its name and turns the answer into the numbers that C gets. A slice is passed as
+// The entries for C. Each asks an entry of the library and turns its answer into the numbers that C gets. A slice is passed as
 // a pointer and a count.
 pub mod context;
 pub mod length;

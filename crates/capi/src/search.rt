@@ -1,7 +1,7 @@
 // Searching a table for a link by relation, for C.
 ghost use mathlib.Core.Path.{_≡_};
 ghost use Rattle.outcomes.specs.Search.{Search};
-ghost use Rattle.table_check.specs.Parts.{tableOf};
+ghost use Rattle.tables.specs.Table.{tableOf};
 ghost use Rattle.lookup.specs.Answers as lookup;
 ghost use Rattle.capi.specs.Answers.{searchOut};
 use crate::number;

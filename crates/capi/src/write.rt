@@ -3,7 +3,7 @@ ghost use Prim.Native.Nat.{ℕ};
 ghost use mathlib.Core.Path.{_≡_};
 ghost use mathlib.Core.List.{List};
 ghost use Rattle.outcomes.specs.Write.{Write};
-ghost use Rattle.table_check.specs.Parts.{tableOf};
+ghost use Rattle.tables.specs.Table.{tableOf};
 ghost use Rattle.writer.specs.Answer as writer;
 ghost use Rattle.capi.specs.Answers.{lengthOut};
 use crate::length::CapstanLengthAnswer;

@@ -32,7 +32,7 @@ use Rattle.outcomes.specs.Read
 use Rattle.outcomes.specs.Copy.{untouched, holding}
 use Rattle.outcomes.specs.Search.{Search, has, found}
 use Rattle.outcomes.specs.Write.{Write, writtenForm, relationsAt, Related, no-relation, wrote}
-use Rattle.laws.specs.Row.{Writing, writes, answers, Judgement, reads, malformed, Row, tableOf, Writes, ReadHolds, Judged, Holds}
+use Rattle.laws.specs.Row.{Writing, writes, answers, Judgement, reads, malformed, Row, recordedTable, Writes, ReadHolds, Judged, Holds}
 
 -- ---- the tests
 
@@ -64,8 +64,8 @@ unread (some R) = false
 
 abbrev pub checks : List ℕ → Judgement → Bool
 checks h (reads ls ps qs w) =
-    leb (length h) limit && recorded h ls ps (read h) && (isNone qs || ltb 0 (length ls / 4)) && asked (tableOf h ls ps) qs
-    && written (tableOf h ls ps) w
+    leb (length h) limit && recorded h ls ps (read h) && (isNone qs || ltb 0 (length ls / 4)) && asked (recordedTable h ls ps) qs
+    && written (recordedTable h ls ps) w
 checks h (malformed k) =
     leb (length h) limit && unread (read h) && leb k (length h) && not (isDead (upTo rfc8288 apart8288 (take k h)))
     && (eqb k (length h) || isDead (upTo rfc8288 apart8288 (take (suc k) h)))
@@ -96,7 +96,7 @@ pub record Known (h ls ps : List ℕ) : Type 0 where
         linkSlots = ls ++ drop (length ls) L;
         paramSlots = ps ++ drop (length ps) P;
       })
-  pub usable : Usable (tableOf h ls ps)
+  pub usable : Usable (recordedTable h ls ps)
 
 known : (h : List ℕ) → length h ≤ limit → (K : List Link) → Reading rfc8288 h K → Known h (linkRecords 0 K) (paramRecords K)
 known h short K r =
@@ -166,7 +166,7 @@ written-holds t (answers n) u e =
 reads-hold : (h ls ps : List ℕ) (qs : List (List ℕ)) (w : Writing) → checks h (reads ls ps qs w) ≡ true
     → ReadHolds h ls ps qs w
 reads-hold h ls ps qs w e =
-    let t = tableOf h ls ps in
+    let t = recordedTable h ls ps in
     let (abcd, writing) =
     both
     (leb (length h) limit && recorded h ls ps (read h) && (isNone qs || ltb 0 (length ls / 4)) && asked t qs)

@@ -14,17 +14,17 @@ use Rattle.tables.specs.Table.{Table}
 use Rattle.outcomes.specs.Number.{done, noSuchLink, notFound}
 use Rattle.outcomes.specs.Context.{of-text, of-base, nothing, Context}
 use Rattle.outcomes.specs.Copy.{untouched, holding, Copy}
-use Rattle.laws.specs.Row.{tableOf, Holds}
+use Rattle.laws.specs.Row.{recordedTable, Holds}
 use Rattle.laws.specs.Marked.{marked}
 use Rattle.laws.specs.Slips.{slips}
 
 abbrev pub third : Table
 third =
-    tableOf (octets "</terms>; rel=\"copyright\"; anchor=\"#foo\"") (1 ∷ 7 ∷ 0 ∷ 2 ∷ [])
+    recordedTable (octets "</terms>; rel=\"copyright\"; anchor=\"#foo\"") (1 ∷ 7 ∷ 0 ∷ 2 ∷ [])
     (10 ∷ 13 ∷ 15 ∷ 24 ∷ 2 ∷ 27 ∷ 33 ∷ 35 ∷ 39 ∷ 2 ∷ [])
 
 abbrev pub fifth : Table
-fifth = tableOf (octets "<a>;REL=Next;rel=prev") (1 ∷ 2 ∷ 0 ∷ 1 ∷ []) (4 ∷ 7 ∷ 8 ∷ 12 ∷ 1 ∷ [])
+fifth = recordedTable (octets "<a>;REL=Next;rel=prev") (1 ∷ 2 ∷ 0 ∷ 1 ∷ []) (4 ∷ 7 ∷ 8 ∷ 12 ∷ 1 ∷ [])
 
 -- every marked header is as it was read by hand
 abbrev pub MarkedHold : Type 0

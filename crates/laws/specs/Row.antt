@@ -27,8 +27,8 @@ pub record Row : Type 0 where
   pub judgement : Judgement
 
 -- the table that holds these records and no more
-abbrev pub tableOf : List ℕ → List ℕ → List ℕ → Table
-tableOf h ls ps =
+abbrev pub recordedTable : List ℕ → List ℕ → List ℕ → Table
+recordedTable h ls ps =
     record { text = h; linkSlots = ls; paramSlots = ps; linkCount = length ls / 4; paramCount = length ps / 5 }
 
 abbrev pub Writes : Table → Writing → Type 0
@@ -47,8 +47,8 @@ pub record ReadHolds (h ls ps : List ℕ) (qs : List (List ℕ)) (w : Writing) :
         linkSlots = ls ++ drop (length ls) L;
         paramSlots = ps ++ drop (length ps) P;
       })
-  pub has : Each (λ (q : List ℕ). Search (tableOf h ls ps) q (record { number = done; link = 0 })) qs
-  pub writing : Writes (tableOf h ls ps) w
+  pub has : Each (λ (q : List ℕ). Search (recordedTable h ls ps) q (record { number = done; link = 0 })) qs
+  pub writing : Writes (recordedTable h ls ps) w
 
 abbrev pub Judged : List ℕ → Judgement → Type 0
 Judged h (reads ls ps qs w) = ReadHolds h ls ps qs w

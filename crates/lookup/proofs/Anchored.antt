@@ -1,10 +1,12 @@
 -- A link's context, once its parameters have been looked through, and the part that it is.
 use Prim.Native.Nat.{ℕ, _+_, _-_, _<_}
+use native.Mathlib.Nat.{add-zero, add-comm}
+use denote.Ref.{RefT}
 use mathlib.Core.Path.{_≡_, sym, ap, subst, _∙_}
 use mathlib.Core.List.{List}
 use mathlib.Core.Option.{Option, none, some}
 use lib.ListN.{take, drop}
-use lib.Seq.{take-length}
+use lib.Seq.{slice}
 use Rattle.octets.proofs.Laws.{slice-take-drop}
 use Rattle.octets.specs.Text.{octets}
 use Rattle.grammar.specs.Link.{Param}
@@ -16,10 +18,10 @@ use Rattle.tables.specs.Table.{Table, paramsFrom}
 use Rattle.tables.specs.Relation.{named}
 use Rattle.tables.specs.Good.{GoodParam}
 use Rattle.outcomes.specs.Usable.{Usable}
-use Rattle.outcomes.specs.Context.{handed, anchor, Context, anchored, unanchored, ContextPart}
+use Rattle.outcomes.specs.Context.{handed, anchor, Context, anchored, unanchored}
 use Rattle.lookup.proofs.Walking.{params-of}
 use Rattle.lookup.specs.Answers.{contextOut}
-use Rattle.lookup.specs.Part.{Within, IsContext}
+use Rattle.lookup.specs.Part.{Within, IsContext, beginsAt, HandsBack}
 use Rattle.lookup.specs.declared.ContextAnswer.{ContextAnswer}
 use Rattle.lookup.specs.declared.ContextAnswer.the-variants.{Anchored, Base}
 
@@ -41,19 +43,31 @@ module _ {t : Table} {i : ℕ} (u : Usable t) (l : i < t .linkCount) {r : LinkRe
 
 -- the answer was told apart as x
 module _ {t : Table} {i : ℕ} {a x : ContextAnswer} (h : IsContext t i a) (e : a ≡ x) where
-  pub part : (base : List ℕ) {r : List ℕ} → r ≡ handed (t .text) base (contextOut base x) → ContextPart t base i r
-  part base q = (contextOut base x, subst (λ y. Context t base i (contextOut base y)) e (h .outcome base), q)
-
   pub within : Within (t .text) x
   within = subst (Within (t .text)) e (h .within)
 
-module _ {t : Table} {i : ℕ} {a : ContextAnswer} (h : IsContext t i a) where
-  -- the part of the text, as the code takes it
-  pub text-part : {p : Span} → a ≡ Anchored p → (base : List ℕ)
-      → ContextPart t base i (take (p .to .0 - p .from .0) (drop (p .from .0) (t .text)))
-  text-part {p} e base =
-      part h e base (sym (slice-take-drop (p .from .0) (p .to .0) (t .text) (within h e .ordered)))
+  pub told-outcome : (base : List ℕ) → Context t base i (contextOut base x)
+  told-outcome base = subst (λ y. Context t base i (contextOut base y)) e (h .outcome base)
 
-  -- the whole base
-  pub base-part : a ≡ Base → (base : List ℕ) → ContextPart t base i base
-  base-part e base = part h e base (sym (take-length base))
+  pub hands : (text base : RefT (List ℕ)) {r : RefT (List ℕ)} → r .now ≡ handed (t .text) (base .now) (contextOut (base .now) x)
+      → r .ptr ≡ beginsAt text base (contextOut (base .now) x) → HandsBack t i text base r
+  hands text base q p =
+      record {
+        out = contextOut (base .now) x;
+        outcome = told-outcome (base .now);
+        octets = q;
+        place = p;
+      }
+
+-- the part of the text, as the code takes it
+pub text-part : {t : Table} {i : ℕ} {a : ContextAnswer} {p : Span} → IsContext t i a → a ≡ Anchored p
+    → take (p .to .0 - p .from .0) (drop (p .from .0) (t .text)) ≡ slice (p .from .0) (p .to .0) (t .text)
+text-part {t} {p = p} h e = sym (slice-take-drop (p .from .0) (p .to .0) (t .text) (within h e .ordered))
+
+-- k octets behind the text's beginning
+pub in-text : (text : RefT (List ℕ)) (k : ℕ) → _≡_ {A = ℕ × ℕ} (text .ptr .0, k + text .ptr .1) (text .ptr .0, text .ptr .1 + k)
+in-text text k = ap (λ (n : ℕ). (text .ptr .0, n)) (add-comm k (text .ptr .1))
+
+-- the base's beginning
+pub at-base : (base : RefT (List ℕ)) → base .ptr ≡ (base .ptr .0, base .ptr .1 + 0)
+at-base base = ap (λ (k : ℕ). (base .ptr .0, k)) (sym (add-zero (base .ptr .1)))

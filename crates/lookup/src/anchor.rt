@@ -1,7 +1,7 @@
 // A link's context, by its `anchor` parameter.
 ghost use Prim.Native.Nat.{_<_};
 ghost use Rattle.outcomes.specs.Usable.{Usable};
-ghost use Rattle.table_check.specs.Parts.{tableOf};
+ghost use Rattle.tables.specs.Table.{tableOf};
 ghost use Rattle.lookup.specs.Part.{IsContext};
 use crate::ContextAnswer;
 use crate::named::is_anchor;

@@ -1,9 +1,10 @@
 // Lookups in a table that is lent: a link by relation, a link's context, and the meaning of a parameter's value. Each entry refuses
 // a text that is too long and a table that is not good, and promises its whole outcome.
 ghost use Rattle.outcomes.specs.Search.{Search};
-ghost use Rattle.outcomes.specs.Context.{Context, ContextPart};
+ghost use Rattle.outcomes.specs.Context.{Context};
 ghost use Rattle.outcomes.specs.Copy.{Copy};
-ghost use Rattle.table_check.specs.Parts.{tableOf};
+ghost use Rattle.tables.specs.Table.{tableOf};
+ghost use Rattle.lookup.specs.Part.{HandsBack};
 ghost use Rattle.lookup.specs.Answers.{searchOut, contextOut, valueOut};
 use crate::usable::TableState;
 use kinds::LinkNumber;
@@ -73,7 +74,7 @@ pub fn context<'a>(
     param_count: usize,
     link: LinkNumber,
 ) -> &'a [u8]
-    ensures { λ r. ⌜ ContextPart (tableOf (now (text .entry)) (now (links .entry)) (now (params .entry)) «link_count» «param_count») (now (base .entry)) (link .0) (now r) ⌝ }
+    ensures { λ r. ⌜ HandsBack (tableOf (now (text .entry)) (now (links .entry)) (now (params .entry)) «link_count» «param_count») (link .0) (text .entry) (base .entry) r ⌝ }
 {
     let answer = anchor::context_of(text, links, params, link_count, param_count, link);
     match answer {

@@ -1,7 +1,7 @@
 // The value of a parameter, by its link and its place within the link.
 ghost use Rattle.outcomes.specs.Usable.{Usable};
 ghost use Rattle.outcomes.specs.Copy.{Copy};
-ghost use Rattle.table_check.specs.Parts.{tableOf};
+ghost use Rattle.tables.specs.Table.{tableOf};
 ghost use Rattle.lookup.specs.Answers.{valueOut};
 use crate::ValueAnswer;
 use kinds::LinkNumber;

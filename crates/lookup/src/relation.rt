@@ -1,7 +1,7 @@
 // The search for a relation.
 ghost use Rattle.outcomes.specs.Usable.{Usable};
 ghost use Rattle.outcomes.specs.Search.{Search};
-ghost use Rattle.table_check.specs.Parts.{tableOf};
+ghost use Rattle.tables.specs.Table.{tableOf};
 ghost use Rattle.lookup.specs.Answers.{searchOut};
 use crate::SearchAnswer;
 use crate::named::is_rel;

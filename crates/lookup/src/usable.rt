@@ -1,5 +1,5 @@
-// What every lookup asks of a table first.
-ghost use Rattle.table_check.specs.Parts.{tableOf};
+// What every entry over a table asks of it first.
+ghost use Rattle.tables.specs.Table.{tableOf};
 ghost use Rattle.lookup.specs.State.{IsState};
 
 // The table may be used, or is refused.

@@ -43,7 +43,3 @@ module _ (t : Table) (base : List ℕ) (i : ℕ) where
         → Context (record { number = done; source = of-text; start = p .valueFrom; end = p .valueTo })
     unanchored : Usable t → i < t .linkCount → anchor t i ≡ none
         → Context (record { number = done; source = of-base; start = 0; end = length base })
-
-  -- the entry that hands back the part answers these octets
-  abbrev pub ContextPart : List ℕ → Type 0
-  ContextPart r = (o : ContextOut) × Context o × (r ≡ handed (t .text) base o)

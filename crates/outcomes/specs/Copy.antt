@@ -1,4 +1,4 @@
--- Copying the meaning of one parameter's value. The numbers come in the order 1, 5, 8, 9, 7.
+-- Value copy: the meaning of one parameter's value. The numbers come in the order 1, 5, 8, 9, 7.
 use Prim.Native.Nat.{ℕ, _+_, _≤_, _<_}
 use mathlib.Core.List.{List, _++_}
 use lib.ListN.{length, drop}

@@ -9,12 +9,12 @@ use mathlib.Core.Bool.{false}
 use mathlib.Core.List.{List}
 use lib.Dec.{eqb}
 use lib.ListN.{length}
-use Rattle.tables.specs.Table.{firstOf, countOf, linkAt, linksFrom}
+use Rattle.tables.specs.Table.{firstOf, countOf, linkAt, linksFrom, tableOf}
 use Rattle.tables.specs.Good.{Each, each-none, each-more, Follows, GoodLink, Good}
 use Rattle.kinds.specs.Slots.{IsLink}
 use Rattle.kinds.specs.declared.LinkRecord.{LinkRecord}
 use Rattle.table_check.specs.Decides.{Decides}
-use Rattle.table_check.specs.Parts.{tableOf, linkOf}
+use Rattle.table_check.specs.Parts.{linkOf}
 use Rattle.table_check.proofs.Deciding.{also, not-so, tests-eq}
 use Rattle.table_check.proofs.OfParams.{first-of}
 

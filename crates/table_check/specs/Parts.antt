@@ -1,16 +1,12 @@
--- A table as its parts are lent, and what is asked of the parts.
+-- The parts of a table, and what is asked of them.
 use Prim.Native.Nat.{ℕ}
 use mathlib.Core.Path.{_≡_}
 use mathlib.Core.Bool.{true}
 use mathlib.Core.List.{List}
 use Rattle.grammar.specs.Link.{Link, Param}
-use Rattle.tables.specs.Table.{Table, paramsFrom}
+use Rattle.tables.specs.Table.{paramsFrom}
 use Rattle.tables.specs.Good.{Each, GoodParam, onceEach}
 use Rattle.kinds.specs.declared.LinkRecord.{LinkRecord}
-
-abbrev pub tableOf : List ℕ → List ℕ → List ℕ → ℕ → ℕ → Table
-tableOf text links params n m =
-    record { text = text; linkSlots = links; paramSlots = params; linkCount = n; paramCount = m }
 
 -- the link that a record stands for, with its parameters from the slots P
 abbrev pub linkOf : List ℕ → LinkRecord → Link

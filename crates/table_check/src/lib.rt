@@ -3,7 +3,8 @@ ghost use Prim.Native.Nat.{_+_, _*_, _≤_};
 ghost use lib.ListN.{length};
 ghost use Rattle.tables.specs.Good.{Good, GoodLink};
 ghost use Rattle.table_check.specs.Decides.{Decides};
-ghost use Rattle.table_check.specs.Parts.{tableOf, linkOf};
+ghost use Rattle.table_check.specs.Parts.{linkOf};
+ghost use Rattle.tables.specs.Table.{tableOf};
 
 pub mod params;
 pub mod parts;

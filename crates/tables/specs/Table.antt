@@ -12,6 +12,11 @@ pub record Table : Type 0 where
   pub linkCount : ℕ
   pub paramCount : ℕ
 
+-- the table of what an entry over it is lent
+abbrev pub tableOf : List ℕ → List ℕ → List ℕ → ℕ → ℕ → Table
+tableOf text links params n m =
+    record { text = text; linkSlots = links; paramSlots = params; linkCount = n; paramCount = m }
+
 -- parameter record number j, 5 slots
 abbrev pub paramAt : List ℕ → ℕ → Param
 paramAt P j =

@@ -1,8 +1,8 @@
-// Writes a table in its written form. The form is measured first, then the limit and the room are tested, and then it is written; so
-// a refusal leaves the buffer as it was.
+// Writes a table in its written form. Relations are asked of every link, the form is measured, the limit and the room are tested,
+// and then it is written; so a refusal leaves the buffer as it was.
 ghost use Rattle.outcomes.specs.Usable.{Usable};
 ghost use Rattle.outcomes.specs.Write.{Write};
-ghost use Rattle.table_check.specs.Parts.{tableOf};
+ghost use Rattle.tables.specs.Table.{tableOf};
 ghost use Rattle.writer.specs.Answer.{writeOut};
 use lookup::usable::TableState;
 

@@ -4,7 +4,7 @@ ghost use mathlib.Core.Bool.{not};
 ghost use Prim.Native.Nat.{_<_};
 ghost use Rattle.outcomes.specs.Usable.{Usable};
 ghost use Rattle.outcomes.specs.Write.{relationsAt};
-ghost use Rattle.table_check.specs.Parts.{tableOf};
+ghost use Rattle.tables.specs.Table.{tableOf};
 ghost use Rattle.values.specs.Runs.{isNone};
 ghost use Rattle.writer.specs.Tells.{Tells};
 use kinds::LinkNumber;

@@ -17,7 +17,7 @@ pub struct Shape {
     pub len: usize,
 }
 
-// The shape of a value that has n octets with its backslashes, and whose octets are all token octets or not.
+// The shape of a value that has n octets when it is escaped, and whose octets are all token octets or not.
 fn shape_for(n: usize, tokens: bool) -> Shape
     requires { ⌜ n ≤ 2 * limit ⌝ }
     ensures { λ r. ⌜ r ≡ shapeFor n tokens ⌝ }

@@ -6,7 +6,7 @@ use mathlib.Core.Path.{_≡_, sym, _∙_}
 use mathlib.Core.Bool.{false}
 use Rattle.outcomes.specs.Search.{has, no-link, found}
 use Rattle.values.proofs.InGood.{link-slots, params-inside}
-use Rattle.table_check.specs.Parts.{tableOf}
+use Rattle.tables.specs.Table.{tableOf}
 use Rattle.lookup.proofs.Walking.{in-slots, good-here, good-value}
 use Rattle.lookup.proofs.Searching.{AtParam, AtRun, first-param, next-param, none-related, unrelated}
 use Rattle.lookup.proofs.Searching.{first-run, next-one, matched, one-more}

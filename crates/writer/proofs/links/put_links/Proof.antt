@@ -5,7 +5,8 @@ use mathlib.Core.Path.{sym}
 use mathlib.Core.List.{_++_}
 use lib.Dec.{eqb}
 use Rattle.outcomes.specs.Write.{writtenForm}
-use Rattle.table_check.specs.Parts.{tableOf, linkOf}
+use Rattle.table_check.specs.Parts.{linkOf}
+use Rattle.tables.specs.Table.{tableOf}
 use Rattle.values.proofs.InGood.{link-slots}
 use Rattle.writer.specs.Forms.{parting, linkForm}
 use Rattle.writer.proofs.Putting.{begin, several, room, onto}

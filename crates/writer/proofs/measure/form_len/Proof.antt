@@ -3,7 +3,7 @@ use Prim.Native.Nat.{_-_}
 use native.Mathlib.Omega.{arith}
 use borrow.Author.Needs.{needs}
 use borrow.Author.Tests.{leb-true, leb-false}
-use Rattle.table_check.specs.Parts.{tableOf}
+use Rattle.tables.specs.Table.{tableOf}
 use Rattle.values.proofs.InGood.{link-slots, params-inside}
 use Rattle.writer.proofs.Forming.{target-span, good-run}
 use Rattle.writer.proofs.Measuring.{FormMeasuring, form-begin, form-end, form-over, form-more, link-added}

@@ -4,7 +4,7 @@ use native.Mathlib.Omega.{arith}
 use mathlib.Core.Path.{_≡_}
 use mathlib.Core.Bool.{false}
 use Rattle.outcomes.specs.Write.{relationsAt}
-use Rattle.table_check.specs.Parts.{tableOf}
+use Rattle.tables.specs.Table.{tableOf}
 use Rattle.values.specs.Runs.{isNone}
 use Rattle.lookup.proofs.Searching.{one-more}
 use Rattle.writer.proofs.Relating.{related, one-unrelated, every-related}

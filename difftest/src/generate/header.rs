@@ -1,0 +1,222 @@
+//! Headers derived from the grammar, with the records that this derivation gives.
+
+use super::octets::{is_escapable, is_plain, is_target, is_token, ALWAYS, HEX, LETTERS, ONCE};
+use crate::numbers::Numbers;
+
+/// A header and its records.
+#[derive(Default)]
+pub struct Derived {
+    pub header: Vec<u8>,
+    pub links: Vec<[usize; 4]>,
+    pub params: Vec<[usize; 5]>,
+}
+
+/// How much of each part there is at most.
+#[derive(Clone, Copy)]
+pub struct Sizes {
+    pub places: usize,
+    pub params: usize,
+    pub octets: usize,
+}
+
+pub const SHORT: Sizes = Sizes {
+    places: 4,
+    params: 6,
+    octets: 12,
+};
+
+/// A header of at most these sizes.
+pub fn derive(numbers: &mut Numbers, sizes: Sizes) -> Derived {
+    let mut maker = Maker {
+        numbers,
+        sizes,
+        made: Derived::default(),
+    };
+    maker.field();
+    maker.made
+}
+
+struct Maker<'n> {
+    numbers: &'n mut Numbers,
+    sizes: Sizes,
+    made: Derived,
+}
+
+impl Maker<'_> {
+    fn put(&mut self, octet: u8) {
+        self.made.header.push(octet);
+    }
+
+    fn here(&self) -> usize {
+        self.made.header.len()
+    }
+
+    fn blanks(&mut self) {
+        if self.numbers.once_in(3) {
+            for _ in 0..self.numbers.small(4) {
+                let blank = self.numbers.of(b" \t");
+                self.put(blank);
+            }
+        }
+    }
+
+    fn field(&mut self) {
+        self.blanks();
+        self.place();
+        for _ in 0..self.numbers.small(self.sizes.places + 1) {
+            self.blanks();
+            self.put(b',');
+            self.blanks();
+            self.place();
+        }
+        self.blanks();
+    }
+
+    fn place(&mut self) {
+        if !self.numbers.once_in(5) {
+            self.link();
+        }
+    }
+
+    fn link(&mut self) {
+        self.put(b'<');
+        let start = self.here();
+        self.target();
+        let end = self.here();
+        self.put(b'>');
+        let first = self.made.params.len();
+        let mut names = vec![];
+        for _ in 0..self.numbers.small(self.sizes.params + 1) {
+            self.blanks();
+            self.put(b';');
+            self.blanks();
+            self.param(&mut names);
+        }
+        let count = self.made.params.len() - first;
+        self.made.links.push([start, end, first, count]);
+    }
+
+    fn target(&mut self) {
+        for _ in 0..self.numbers.small(self.sizes.octets) {
+            if self.numbers.once_in(6) {
+                self.put(b'%');
+                self.one_of(|octet| HEX.contains(&octet));
+                self.one_of(|octet| HEX.contains(&octet));
+            } else {
+                self.one_of(is_target);
+            }
+        }
+    }
+
+    /// The names are those of the link's parameters before this one.
+    fn param(&mut self, names: &mut Vec<Vec<u8>>) {
+        let start = self.here();
+        self.name();
+        let end = self.here();
+        let name = self.made.header[start..end].to_ascii_lowercase();
+        self.blanks();
+        let [value_start, value_end, form] = self.value(end, &name);
+        let kept = !(ONCE.contains(&&name[..]) && names.contains(&name));
+        names.push(name);
+        if kept {
+            let record = [start, end, value_start, value_end, form];
+            self.made.params.push(record);
+        }
+    }
+
+    fn name(&mut self) {
+        let known = match self.numbers.below(8) {
+            0 => ALWAYS[self.numbers.below(ALWAYS.len())],
+            1 | 2 => b"rel",
+            3..6 => ONCE[self.numbers.below(ONCE.len())],
+            _ => return self.token(),
+        };
+        let case = self.numbers.below(3);
+        for &octet in known {
+            let upper = case == 1 || (case == 2 && self.numbers.once_in(2));
+            self.put(if upper {
+                octet.to_ascii_uppercase()
+            } else {
+                octet
+            });
+        }
+    }
+
+    fn token(&mut self) {
+        for _ in 0..=self.numbers.small(self.sizes.octets) {
+            self.one_of(is_token);
+        }
+    }
+
+    /// The value's places and form; the name's end and the name are given.
+    fn value(&mut self, name_end: usize, name: &[u8]) -> [usize; 3] {
+        let form = self.numbers.below(5);
+        if form == 0 {
+            return [name_end, name_end, 0];
+        }
+        self.put(b'=');
+        self.blanks();
+        let start = self.here();
+        if form < 3 {
+            self.token();
+            return [start, self.here(), 1];
+        }
+        self.put(b'"');
+        if name == b"rel" && self.numbers.once_in(2) {
+            self.relations();
+        } else {
+            self.inside();
+        }
+        let end = self.here();
+        self.put(b'"');
+        [start + 1, end, 2]
+    }
+
+    /// Octets inside the quotes, of all kinds.
+    fn inside(&mut self) {
+        for _ in 0..self.numbers.small(self.sizes.octets) {
+            match self.numbers.below(5) {
+                0 => {
+                    self.put(b'\\');
+                    self.one_of(is_escapable);
+                }
+                1 => {
+                    self.put(b'\\');
+                    let marked = self.numbers.of(b"\"\\ ,;<");
+                    self.put(marked);
+                }
+                _ => self.one_of(is_plain),
+            }
+        }
+    }
+
+    /// Relations parted by spaces, either of which may be escaped.
+    fn relations(&mut self) {
+        const WORDS: [&[u8]; 6] = [b"next", b"PREV", b"a", b"b-c", b"http://a/b", b"x\ty"];
+        for _ in 0..self.numbers.small(6) {
+            let word = self.numbers.of(&WORDS);
+            let parted = &b"  "[..self.numbers.below(3)];
+            for &octet in [parted, word].concat().iter() {
+                if self.numbers.once_in(6) {
+                    self.put(b'\\');
+                }
+                self.put(octet);
+            }
+        }
+        if self.numbers.once_in(3) {
+            self.put(b' ');
+        }
+    }
+
+    /// One octet of the set: mostly a letter where letters are in it.
+    fn one_of(&mut self, set: fn(u8) -> bool) {
+        let mut octet = match self.numbers.once_in(2) {
+            true => self.numbers.of(LETTERS),
+            false => self.numbers.octet(),
+        };
+        while !set(octet) {
+            octet = self.numbers.octet();
+        }
+        self.put(octet);
+    }
+}

@@ -1,0 +1,45 @@
+//! The sets of octets, listed apart from those of the reference.
+
+pub const LETTERS: &[u8] = b"abcdefghijklmnopqrstuvwxyzABCDEFGHIJKLMNOPQRSTUVWXYZ";
+const TOKEN_MARKS: &[u8] = b"!#$%&'*+-.^_`|~";
+const TARGET_MARKS: &[u8] = b"-._~:/?#[]@!$&'()*+,;=";
+pub const HEX: &[u8] = b"0123456789abcdefABCDEF";
+
+pub fn is_token(octet: u8) -> bool {
+    octet.is_ascii_alphanumeric() || TOKEN_MARKS.contains(&octet)
+}
+
+pub fn is_target(octet: u8) -> bool {
+    octet.is_ascii_alphanumeric() || TARGET_MARKS.contains(&octet)
+}
+
+pub fn is_hex(octet: u8) -> bool {
+    HEX.contains(&octet)
+}
+
+pub fn is_escapable(octet: u8) -> bool {
+    octet == b'\t' || (octet >= b' ' && octet != 127)
+}
+
+pub fn is_plain(octet: u8) -> bool {
+    is_escapable(octet) && octet != b'"' && octet != b'\\'
+}
+
+/// Names of which only the first in a link is kept.
+pub const ONCE: [&[u8]; 6] = [b"rel", b"anchor", b"media", b"title", b"title*", b"type"];
+
+/// Names that are kept each time, some of them nearly one of the six.
+pub const ALWAYS: [&[u8]; 12] = [
+    b"hreflang",
+    b"rev",
+    b"re",
+    b"relx",
+    b"rel*",
+    b"anchors",
+    b"medi",
+    b"title**",
+    b"titl",
+    b"typ",
+    b"*",
+    b"x",
+];

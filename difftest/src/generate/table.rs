@@ -1,0 +1,95 @@
+//! Good tables that no reading gave: spans overlap and stand in any order.
+
+use super::octets::{is_token, ALWAYS, ONCE};
+use super::{header, spans};
+use crate::numbers::Numbers;
+use crate::tables::Tables;
+
+/// How many parameters each link gets, and how long spans may grow.
+pub struct Shape<'s> {
+    pub params: &'s [usize],
+    pub most: usize,
+}
+
+/// A good table of that shape over a made text; most links have a `rel`.
+pub fn table(numbers: &mut Numbers, shape: Shape) -> Tables {
+    let (text, words) = soup(numbers);
+    let mut links = vec![];
+    let mut params = vec![];
+    for &count in shape.params {
+        let [start, end] = spans::target(numbers, &text, shape.most);
+        links.push([start, end, params.len(), count]);
+        let mut names: Vec<Vec<u8>> = vec![];
+        for place in 0..count {
+            let rel = place == 0 && !numbers.once_in(8);
+            let name = match rel {
+                true => words[0],
+                false => free_name(numbers, &text, &words, &names),
+            };
+            names.push(text[name[0]..name[1]].to_ascii_lowercase());
+            params.push(param(numbers, &text, name, shape.most));
+        }
+    }
+    Tables::new(text, &links, &params)
+}
+
+/// A text of all that tables are made of, and where names stand in it, a `rel` first.
+fn soup(numbers: &mut Numbers) -> (Vec<u8>, Vec<[usize; 2]>) {
+    let mut text = vec![];
+    let mut words = vec![];
+    let mut put_word = |text: &mut Vec<u8>, word: Vec<u8>| {
+        words.push([text.len(), text.len() + word.len()]);
+        text.extend(word);
+    };
+    put_word(&mut text, numbers.of(&[b"rel", b"REL", b"rEl"]).to_vec());
+    for _ in 0..4 + numbers.below(8) {
+        let word = match numbers.once_in(2) {
+            true => numbers.of(&ONCE),
+            false => numbers.of(&ALWAYS),
+        };
+        let upper = numbers.once_in(3);
+        let word = if upper {
+            word.to_ascii_uppercase()
+        } else {
+            word.to_vec()
+        };
+        text.extend(header::derive(numbers, header::SHORT).header);
+        put_word(&mut text, word);
+        text.push(numbers.octet());
+    }
+    (text, words)
+}
+
+/// A name that isn't one of the six if the link has it already.
+fn free_name(
+    numbers: &mut Numbers,
+    text: &[u8],
+    words: &[[usize; 2]],
+    names: &[Vec<u8>],
+) -> [usize; 2] {
+    loop {
+        let word = numbers.of(words);
+        let name = match numbers.once_in(3) {
+            true => spans::token(numbers, text, 8).unwrap_or(word),
+            false => word,
+        };
+        let folded = text[name[0]..name[1]].to_ascii_lowercase();
+        if !(ONCE.contains(&&folded[..]) && names.contains(&folded)) {
+            return name;
+        }
+        // One octet alone is none of the six.
+        let start = numbers.below(text.len());
+        if is_token(text[start]) {
+            return [start, start + 1];
+        }
+    }
+}
+
+fn param(numbers: &mut Numbers, text: &[u8], name: [usize; 2], most: usize) -> [usize; 5] {
+    let ([start, end], form) = match (numbers.below(5), spans::token(numbers, text, most)) {
+        (0, _) => ([name[1]; 2], 0),
+        (1 | 2, Some(span)) => (span, 1),
+        _ => (spans::quoted(numbers, text, most), 2),
+    };
+    [name[0], name[1], start, end, form]
+}

@@ -1,0 +1,106 @@
+//! Ways that nearly break a clause of a good table, and don't.
+
+use super::edit::{append, set_name, set_no_value, set_target, set_value};
+use super::Way;
+use crate::numbers::Numbers;
+use crate::tables::Tables;
+
+pub const WAYS: &[(&str, Way)] = &[
+    ("slots to spare, of any numbers", |numbers, tables| {
+        for _ in 0..1 + numbers.below(9) {
+            tables.links.push(numbers.next() as usize);
+            tables.params.push(usize::MAX);
+        }
+    }),
+    ("no links and no parameters", |_, tables| {
+        tables.link_count = 0;
+        tables.param_count = 0;
+    }),
+    ("nothing at all", |_, tables| {
+        *tables = Tables::new(vec![], &[], &[])
+    }),
+    (
+        "an empty target at the end of the text",
+        |numbers, tables| {
+            let end = tables.text.len();
+            set_target(tables, numbers.below(4), [end; 2]);
+        },
+    ),
+    (
+        "an empty quoted string at the end of the text",
+        |numbers, tables| {
+            let end = tables.text.len();
+            set_value(tables, numbers.below(6), [end; 2], 2);
+        },
+    ),
+    (
+        "a name without a value at the end of the text",
+        |numbers, tables| {
+            let span = append(tables, b"z");
+            let param = numbers.below(6);
+            set_no_value(tables, param);
+            set_name(tables, param, span);
+        },
+    ),
+    ("one span for everything", |_, tables| {
+        let span = append(tables, b"z~9");
+        (0..4).for_each(|link| set_target(tables, link, span));
+        for param in 0..6 {
+            set_name(tables, param, span);
+            set_value(tables, param, span, 1 + param % 2);
+        }
+    }),
+    ("a target of every mark", |numbers, tables| {
+        let span = append(tables, b"-._~:/?#[]@!$&'()*+,;=%0f%Fa");
+        set_target(tables, numbers.below(4), span);
+    }),
+    ("a token of every mark", |numbers, tables| {
+        let span = append(tables, b"!#$%&'*+-.^_`|~09azAZ");
+        set_value(tables, numbers.below(6), span, 1);
+    }),
+    (
+        "backslashes before backslashes, and the edges of octets",
+        |numbers, tables| {
+            let span = append(tables, b"\t !#[]~\x80\xff\\\t\\ \\~\\\x80\\\xff\\\"\\\\");
+            set_value(tables, numbers.below(6), span, 2);
+        },
+    ),
+    ("a name that may stand again, twice", |_, tables| {
+        names(tables, [b"hreflang", b"HREFLANG", b"Hreflang"])
+    }),
+    ("title and title*", |_, tables| {
+        names(tables, [b"title", b"TITLE*", b"title**"])
+    }),
+    ("names that begin one of the six", |_, tables| {
+        names(tables, [b"rel", b"re", b"re"])
+    }),
+    ("names that one of the six begins", |_, tables| {
+        names(tables, [b"type", b"types", b"types"])
+    }),
+    ("one of the six in each link", |_, tables| {
+        let span = append(tables, b"type");
+        for param in [0, 2, 3] {
+            set_name(tables, param, span);
+        }
+        names_of(tables, &[1, 4, 5], b"x");
+    }),
+    ("a text of 8,192 octets", full),
+];
+
+/// The names of the last link's parameters.
+fn names(tables: &mut Tables, names: [&[u8]; 3]) {
+    for (param, name) in (3..).zip(names) {
+        names_of(tables, &[param], name);
+    }
+}
+
+fn names_of(tables: &mut Tables, params: &[usize], name: &[u8]) {
+    let span = append(tables, name);
+    for &param in params {
+        set_name(tables, param, span);
+    }
+}
+
+fn full(_: &mut Numbers, tables: &mut Tables) {
+    tables.text.resize(oracle::number::LIMIT, b'a');
+}

@@ -1,0 +1,118 @@
+//! Which number is answered where several could be.
+
+use super::lengths::form_of;
+use crate::compare::{read, Asked, Compared};
+use crate::run::Run;
+use crate::shown::{self, Difference};
+use crate::tables::Tables;
+
+pub fn compare(run: &mut Run) -> Compared<()> {
+    read_orders(run)?;
+    table_orders(run)
+}
+
+/// Reading: 1, 2, 3, 4.
+fn read_orders(run: &mut Run) -> Compared<()> {
+    let long = b"<a>;x;".repeat(1400);
+    for (header, link_slots, param_slots, number) in [
+        (&long[..], 0, 0, 1),
+        (b"<a>;x;", 0, 0, 2),
+        (b"<a>;x", 0, 0, 3),
+        (b"<a>;x", 3, 4, 3),
+        (b"<a>;x", 4, 4, 4),
+        (b"<a>;x", 4, 5, 0),
+    ] {
+        run.case();
+        let (answer, _) = read(run, header, link_slots, param_slots)?;
+        if answer.number != number {
+            return Err(Difference {
+                asked: format!("read {}", shown::octets(header)),
+                library: format!("{answer:?}"),
+                expected: format!("number {number}"),
+            });
+        }
+    }
+    Ok(())
+}
+
+/// The numbers that a table gets where nothing is found, no link or parameter is there, and the
+/// output has no room.
+#[derive(Clone, Copy, Debug, PartialEq)]
+struct Answers {
+    search: usize,
+    context: usize,
+    value: usize,
+    place: usize,
+    copy: usize,
+    write: usize,
+}
+
+const GOOD: Answers = Answers {
+    search: 9,
+    context: 8,
+    value: 8,
+    place: 9,
+    copy: 7,
+    write: 7,
+};
+
+const fn refused(number: usize) -> Answers {
+    Answers {
+        search: number,
+        context: number,
+        value: number,
+        place: number,
+        copy: number,
+        write: number,
+    }
+}
+
+fn expect(run: &mut Run, tables: &Tables, expected: Answers) -> Compared<()> {
+    let asked = Asked::new(run, tables);
+    let answers = Answers {
+        search: asked.search(run, b"")?,
+        context: asked.context(run, b"", tables.link_count)?,
+        value: asked.value(run, tables.link_count, 9999, 0)?.0,
+        place: asked.value(run, 0, 9999, 0)?.0,
+        copy: asked.value(run, 0, 0, 0)?.0,
+        write: asked.write(run, 0)?.0,
+    };
+    if answers == expected {
+        return Ok(());
+    }
+    Err(Difference {
+        asked: format!("the order of numbers in {}", shown::table(tables.raw())),
+        library: format!("{answers:?}"),
+        expected: format!("{expected:?}"),
+    })
+}
+
+/// Writing 1, 5, 6, 1, 7; search 1, 5, 9; context 1, 5, 8; value copy 1, 5, 8, 9, 7.
+fn table_orders(run: &mut Run) -> Compared<()> {
+    let good = Tables::new(b"rel".to_vec(), &[[0, 3, 0, 1]], &[[0, 3, 0, 1, 1]]);
+    let mut bad = good.clone();
+    bad.params[4] = 3;
+    let mut bad_and_long = bad.clone();
+    bad_and_long.text.resize(8193, b'a');
+    let mut long_form = form_of(2, 9000);
+    let mut no_relation_and_long_form = long_form.clone();
+    no_relation_and_long_form.params[1] = 2;
+    let mut no_relation = good.clone();
+    no_relation.params[1] = 2;
+    let mut bad_and_no_relation = no_relation.clone();
+    bad_and_no_relation.links[3] = 2;
+    long_form.links.extend([7; 3]);
+    for (tables, expected) in [
+        (good, GOOD),
+        (bad, refused(5)),
+        (bad_and_long, refused(1)),
+        (bad_and_no_relation, refused(5)),
+        (no_relation, Answers { write: 6, ..GOOD }),
+        (no_relation_and_long_form, Answers { write: 6, ..GOOD }),
+        (long_form, Answers { write: 1, ..GOOD }),
+    ] {
+        run.case();
+        expect(run, &tables, expected)?;
+    }
+    Ok(())
+}

@@ -1,0 +1,33 @@
+//! Slots at, over and under what a header takes.
+
+use crate::compare::{read, Compared};
+use crate::generate::header::{derive, SHORT};
+use crate::run::Run;
+
+const CASES: usize = 300;
+
+pub fn compare(run: &mut Run) -> Compared<()> {
+    run.begin("rooms");
+    for _ in 0..CASES {
+        let derived = derive(&mut run.numbers, SHORT);
+        let (links, params) = (4 * derived.links.len(), 5 * derived.params.len());
+        for link_slots in round(links, 4) {
+            for param_slots in round(params, 5) {
+                run.case();
+                read(run, &derived.header, link_slots, param_slots)?;
+            }
+        }
+    }
+    Ok(())
+}
+
+/// Just the slots, a slot fewer, a record fewer, nearly a record more, a record more.
+fn round(slots: usize, record: usize) -> [usize; 5] {
+    [
+        slots,
+        slots.saturating_sub(1),
+        slots.saturating_sub(record),
+        slots + record - 1,
+        slots + record,
+    ]
+}

@@ -1,0 +1,29 @@
+//! The headers read by hand, the RFC's examples, and headers of other projects' tests, each cut
+//! everywhere too.
+
+use super::read_and_ask;
+use crate::compare::Compared;
+use crate::run::Run;
+
+const LISTS: [&str; 3] = [
+    include_str!("../../../oracle/data/rows.txt"),
+    include_str!("../../../oracle/data/rfc8288.txt"),
+    include_str!("../../../oracle/data/corpus.txt"),
+];
+
+pub fn headers() -> impl Iterator<Item = &'static [u8]> {
+    LISTS
+        .iter()
+        .flat_map(|list| list.lines())
+        .map(str::as_bytes)
+}
+
+pub fn compare(run: &mut Run) -> Compared<()> {
+    run.begin("stored");
+    for header in headers() {
+        for end in 0..=header.len() {
+            read_and_ask(run, &header[..end])?;
+        }
+    }
+    Ok(())
+}

@@ -1,0 +1,138 @@
+/* A libFuzzer target: headers read, written, read back and joined, held to the laws. It needs no second reader.
+   The library has no instrumentation; what guides the fuzzer are the answers: a malformed header's place that grows, counts that are
+   new. README.md says how to run it. */
+#include "capstan.h"
+#include "lent.h"
+
+enum { LIMIT = 8192, LINKS = LIMIT / 2, PARAMS = LIMIT / 2, COUNTERS = 4096 };
+
+__attribute__((section("__libfuzzer_extra_counters"))) static uint8_t counters[4 * COUNTERS];
+
+static void seen(size_t kind, size_t what) {
+  if (what < COUNTERS) counters[kind * COUNTERS + what] = 1;
+}
+
+typedef struct {
+  const uint8_t *text;
+  size_t length, *links, link_slots, *params, param_slots;
+  capstan_read_answer answer;
+} reading;
+
+static uint8_t *text_end, *link_end, *param_end, *out_end;
+
+/* Reads in so many slots and looks at everything lent. The text is lent anew, so there is one reading at a time. */
+static reading read_in(const uint8_t *header, size_t length, size_t links, size_t params) {
+  reading r = {.length = length, .link_slots = 4 * links, .param_slots = 5 * params};
+  r.text = memmove(text_end - length, header, length);
+  r.links = held(link_end, r.link_slots * sizeof(size_t));
+  r.params = held(param_end, r.param_slots * sizeof(size_t));
+  r.answer = capstan_read(r.text, length, r.links, r.link_slots, r.params, r.param_slots);
+  MUST(r.answer.number <= 4);
+  MUST(r.answer.number == 2 || r.answer.place == 0);
+  MUST(r.answer.number == 0 || (r.answer.links == 0 && r.answer.params == 0));
+  MUST(r.answer.links <= links && r.answer.params <= params);
+  size_t link_used = 4 * r.answer.links, param_used = 5 * r.answer.params;
+  MUST(still_held(r.links + link_used, (r.link_slots - link_used) * sizeof(size_t)));
+  MUST(still_held(r.params + param_used, (r.param_slots - param_used) * sizeof(size_t)));
+  return r;
+}
+
+/* Reads in room for whatever so many octets may hold. */
+static reading read_amply(const uint8_t *header, size_t length) {
+  size_t most = length < LIMIT ? length : LIMIT;
+  return read_in(header, length, (most + 1) / 3, most / 2);
+}
+
+/* The octets up to the place begin a header, and with one more they don't. */
+static void place_law(const uint8_t *header, size_t length, size_t place) {
+  MUST(place <= length);
+  reading cut = read_amply(header, place);
+  MUST(cut.answer.number == 0 || (cut.answer.number == 2 && cut.answer.place == place));
+  if (place < length) {
+    reading more = read_amply(header, place + 1);
+    MUST(more.answer.number == 2 && more.answer.place == place);
+  }
+}
+
+static void room_law(const uint8_t *header, size_t length, capstan_read_answer a) {
+  MUST(read_in(header, length, a.links, a.params).answer.number == 0);
+  if (a.links > 0) MUST(read_in(header, length, a.links - 1, a.params).answer.number == 3);
+  if (a.params > 0) MUST(read_in(header, length, a.links, a.params - 1).answer.number == 4);
+}
+
+/* The header joined with itself has everything twice. */
+static void join_law(const uint8_t *header, size_t length, capstan_read_answer a) {
+  static uint8_t join[LIMIT];
+  if (2 * length + 1 > LIMIT) return;
+  memcpy(join, header, length);
+  join[length] = ',';
+  memcpy(join + length + 1, header, length);
+  capstan_read_answer twice = read_in(join, 2 * length + 1, 2 * a.links, 2 * a.params).answer;
+  MUST(twice.number == 0 && twice.links == 2 * a.links && twice.params == 2 * a.params);
+}
+
+static capstan_length_answer write_in(reading r, size_t room) {
+  uint8_t *out = held(out_end, room);
+  capstan_length_answer w =
+      capstan_write(r.text, r.length, r.links, r.link_slots, r.params, r.param_slots, r.answer.links, r.answer.params, out, room);
+  MUST(w.number == 0 || w.length == 0);
+  MUST(w.length <= room && still_held(out + w.length, room - w.length));
+  return w;
+}
+
+/* What is written reads back to the counts, and is written again as it is. */
+static void write_law(reading r) {
+  static uint8_t form[LIMIT];
+  capstan_read_answer a = r.answer;
+  capstan_length_answer w = write_in(r, LIMIT);
+  MUST(w.number == 0 || w.number == 1 || w.number == 6);
+  seen(3, w.number == 0 ? 10 + w.length : w.number);
+  if (w.number != 0) return;
+  memcpy(form, out_end - LIMIT, w.length);
+  MUST(write_in(r, w.length).number == 0);
+  if (w.length > 0) MUST(write_in(r, w.length - 1).number == 7);
+  reading back = read_in(form, w.length, a.links, a.params);
+  MUST(back.answer.number == 0 && back.answer.links == a.links && back.answer.params == a.params);
+  MUST(write_in(back, LIMIT).length == w.length && memcmp(form, out_end - LIMIT, w.length) == 0);
+}
+
+static void value_law(reading r) {
+  for (size_t link = 0; link < r.answer.links; link++) {
+    for (size_t place = 0; place < r.links[4 * link + 3]; place++) {
+      size_t *param = r.params + 5 * (r.links[4 * link + 2] + place), room = param[3] - param[2];
+      uint8_t *out = held(out_end, room);
+      capstan_length_answer v = capstan_value(r.text, r.length, r.links, r.link_slots, r.params, r.param_slots, r.answer.links,
+                                              r.answer.params, link, place, out, room);
+      MUST(v.number == 0 && v.length <= room && still_held(out + v.length, room - v.length));
+      if (param[4] != 2) MUST(v.length == room && memcmp(out, r.text + param[2], room) == 0);
+    }
+  }
+}
+
+int LLVMFuzzerInitialize(int *argc, char ***argv) {
+  (void)argc, (void)argv;
+  text_end = lent_end(2 * LIMIT);
+  link_end = lent_end(4 * LINKS * sizeof(size_t));
+  param_end = lent_end(5 * PARAMS * sizeof(size_t));
+  out_end = lent_end(LIMIT);
+  return 0;
+}
+
+int LLVMFuzzerTestOneInput(const uint8_t *header, size_t length) {
+  if (length > 2 * LIMIT) return -1;
+  capstan_read_answer a = read_amply(header, length).answer;
+  MUST((a.number == 1) == (length > LIMIT));
+  if (a.number == 2) {
+    seen(0, a.place);
+    place_law(header, length, a.place);
+  } else if (a.number == 0) {
+    seen(1, a.links);
+    seen(2, a.params);
+    room_law(header, length, a);
+    join_law(header, length, a);
+    reading r = read_amply(header, length);
+    if (a.params <= 64) value_law(r);
+    write_law(r);
+  }
+  return 0;
+}

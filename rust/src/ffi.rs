@@ -1,0 +1,151 @@
+//! The C interface with slices for pointers and lengths, its answers number by number.
+//!
+//! These functions are safe for every input, also for tables of any numbers: the library is proved
+//! to stay within what it is lent. All the unsafe code of the crate is here.
+
+#![allow(unsafe_code)]
+
+mod answers;
+mod symbols;
+
+pub use answers::{ContextAnswer, LengthAnswer, RawTable, ReadAnswer, SearchAnswer};
+use symbols::{capstan_context, capstan_read, capstan_search, capstan_value, capstan_write};
+
+/// Reads a header into the slots lent.
+///
+/// ```
+/// let mut links = [0; 4];
+/// let answer = capstanbar::ffi::read(b"<a>", &mut links, &mut []);
+/// assert_eq!((answer.number, answer.links, links), (0, 1, [1, 2, 0, 0]));
+/// ```
+pub fn read(header: &[u8], links: &mut [usize], params: &mut [usize]) -> ReadAnswer {
+    // SAFETY: each pointer comes with the length of its slice, so it isn't null, is aligned, and leads
+    // to that many values that are set. What is written to comes of a mutable slice, so it overlaps
+    // nothing else and no other thread has it. The library keeps no pointer past its return. All this
+    // holds of the calls below too.
+    unsafe {
+        capstan_read(
+            header.as_ptr(),
+            header.len(),
+            links.as_mut_ptr(),
+            links.len(),
+            params.as_mut_ptr(),
+            params.len(),
+        )
+    }
+}
+
+/// Searches for the lowest link that has the relation.
+///
+/// ```
+/// use capstanbar::ffi::{search, RawTable, SearchAnswer};
+///
+/// let (links, params) = ([1, 2, 0, 1], [4, 7, 8, 12, 1]);
+/// let text = b"<a>;rel=next";
+/// let table = RawTable { text, links: &links, params: &params, link_count: 1, param_count: 1 };
+/// assert_eq!(search(table, b"NEXT"), SearchAnswer { number: 0, link: 0 });
+/// ```
+pub fn search(table: RawTable<'_>, relation: &[u8]) -> SearchAnswer {
+    // SAFETY: as in `read`; nothing is lent for writing.
+    unsafe {
+        capstan_search(
+            table.text.as_ptr(),
+            table.text.len(),
+            table.links.as_ptr(),
+            table.links.len(),
+            table.params.as_ptr(),
+            table.params.len(),
+            table.link_count,
+            table.param_count,
+            relation.as_ptr(),
+            relation.len(),
+        )
+    }
+}
+
+/// Asks for the context of a link: which part of the text or of the base it is.
+///
+/// ```
+/// use capstanbar::ffi::{context, ContextAnswer, RawTable};
+///
+/// let table = RawTable { text: b"<a>", links: &[1, 2, 0, 0], params: &[], link_count: 1, param_count: 0 };
+/// let whole_base = ContextAnswer { number: 0, source: 2, start: 0, end: 4 };
+/// assert_eq!(context(table, b"base", 0), whole_base);
+/// ```
+pub fn context(table: RawTable<'_>, base: &[u8], link: usize) -> ContextAnswer {
+    // SAFETY: as in `read`; nothing is lent for writing.
+    unsafe {
+        capstan_context(
+            table.text.as_ptr(),
+            table.text.len(),
+            base.as_ptr(),
+            base.len(),
+            table.links.as_ptr(),
+            table.links.len(),
+            table.params.as_ptr(),
+            table.params.len(),
+            table.link_count,
+            table.param_count,
+            link,
+        )
+    }
+}
+
+/// Copies the meaning of one parameter's value, named by its link and its place within that link.
+///
+/// ```
+/// use capstanbar::ffi::{value, RawTable};
+///
+/// let (links, params) = ([0, 0, 0, 1], [0, 1, 2, 5, 2]);
+/// let text = br#"t"a\b""#;
+/// let table = RawTable { text, links: &links, params: &params, link_count: 1, param_count: 1 };
+/// let mut out = *b"....";
+/// assert_eq!((value(table, 0, 0, &mut out).length, &out), (2, b"ab.."));
+/// ```
+pub fn value(table: RawTable<'_>, link: usize, place: usize, out: &mut [u8]) -> LengthAnswer {
+    // SAFETY: as in `read`; the output alone is lent for writing.
+    unsafe {
+        capstan_value(
+            table.text.as_ptr(),
+            table.text.len(),
+            table.links.as_ptr(),
+            table.links.len(),
+            table.params.as_ptr(),
+            table.params.len(),
+            table.link_count,
+            table.param_count,
+            link,
+            place,
+            out.as_mut_ptr(),
+            out.len(),
+        )
+    }
+}
+
+/// Writes the table's one written form.
+///
+/// ```
+/// use capstanbar::ffi::{write, RawTable};
+///
+/// let (links, params) = ([0, 3, 0, 1], [0, 3, 0, 1, 2]);
+/// let table = RawTable { text: b"Rel", links: &links, params: &params, link_count: 1, param_count: 1 };
+/// let mut out = *b"................";
+/// assert_eq!((write(table, &mut out).length, &out), (12, b"<Rel>; rel=R...."));
+/// ```
+pub fn write(table: RawTable<'_>, out: &mut [u8]) -> LengthAnswer {
+    // SAFETY: as in `read`; the output alone is lent for writing.
+    unsafe {
+        capstan_write(
+            table.text.as_ptr(),
+            table.text.len(),
+            table.links.as_ptr(),
+            table.links.len(),
+            table.params.as_ptr(),
+            table.params.len(),
+            table.link_count,
+            table.param_count,
+            out.as_mut_ptr(),
+            out.len(),
+        )
+    }
+}

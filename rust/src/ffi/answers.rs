@@ -1,0 +1,101 @@
+//! What the functions take and answer, laid out as in C.
+
+/// What reading answers.
+///
+/// ```
+/// use capstanbar::ffi::{read, ReadAnswer};
+///
+/// let refused = ReadAnswer { number: 2, place: 4, links: 0, params: 0 };
+/// assert_eq!(read(b"<a> <b>", &mut [0; 8], &mut []), refused);
+/// ```
+#[repr(C)]
+#[derive(Clone, Copy, Debug, PartialEq, Eq)]
+pub struct ReadAnswer {
+    /// 0 done, 1 too long, 2 malformed, 3 no link room, 4 no parameter room.
+    pub number: usize,
+    /// Where a malformed header went wrong, else 0.
+    pub place: usize,
+    /// The count of links, 0 if refused.
+    pub links: usize,
+    /// The count of kept parameters, 0 if refused.
+    pub params: usize,
+}
+
+/// What searching answers.
+///
+/// ```
+/// use capstanbar::ffi::{search, RawTable, SearchAnswer};
+///
+/// let none = RawTable { text: b"", links: &[], params: &[], link_count: 0, param_count: 0 };
+/// assert_eq!(search(none, b"next"), SearchAnswer { number: 9, link: 0 });
+/// ```
+#[repr(C)]
+#[derive(Clone, Copy, Debug, PartialEq, Eq)]
+pub struct SearchAnswer {
+    /// 0 done, 1 too long, 5 bad table, 9 not found.
+    pub number: usize,
+    /// The link's number, 0 if refused.
+    pub link: usize,
+}
+
+/// What asking for a context answers.
+///
+/// ```
+/// use capstanbar::ffi::{context, ContextAnswer, RawTable};
+///
+/// let none = RawTable { text: b"", links: &[], params: &[], link_count: 0, param_count: 0 };
+/// let refused = ContextAnswer { number: 8, source: 0, start: 0, end: 0 };
+/// assert_eq!(context(none, b"base", 0), refused);
+/// ```
+#[repr(C)]
+#[derive(Clone, Copy, Debug, PartialEq, Eq)]
+pub struct ContextAnswer {
+    /// 0 done, 1 too long, 5 bad table, 8 no such link.
+    pub number: usize,
+    /// What the context is a part of: 1 the text, 2 the base; 0 if refused.
+    pub source: usize,
+    /// Where it starts there.
+    pub start: usize,
+    /// One past where it ends there.
+    pub end: usize,
+}
+
+/// What copying a value or writing a table answers.
+///
+/// ```
+/// use capstanbar::ffi::{write, LengthAnswer, RawTable};
+///
+/// let none = RawTable { text: b"", links: &[], params: &[], link_count: 0, param_count: 0 };
+/// assert_eq!(write(none, &mut []), LengthAnswer { number: 0, length: 0 });
+/// ```
+#[repr(C)]
+#[derive(Clone, Copy, Debug, PartialEq, Eq)]
+pub struct LengthAnswer {
+    /// 0 done, 1 too long, 5 bad table, 6 no relation, 7 no output room, 8 no such link, 9 not found.
+    pub number: usize,
+    /// The octets put into the output, 0 if refused.
+    pub length: usize,
+}
+
+/// A text with the slots of its tables and its counts, of whose numbers nothing is known.
+///
+/// ```
+/// use capstanbar::ffi::{search, RawTable};
+///
+/// let links = [usize::MAX, 0, 3, usize::MAX];
+/// let wild = RawTable { text: b"a", links: &links, params: &[], link_count: 1, param_count: 0 };
+/// assert_eq!(search(wild, b"next").number, 5);
+/// ```
+#[derive(Clone, Copy, Debug)]
+pub struct RawTable<'a> {
+    /// The text that the records are places in.
+    pub text: &'a [u8],
+    /// Link records, four slots each.
+    pub links: &'a [usize],
+    /// Parameter records, five slots each.
+    pub params: &'a [usize],
+    /// How many links the slots hold.
+    pub link_count: usize,
+    /// How many parameters the slots hold.
+    pub param_count: usize,
+}

@@ -1,0 +1,65 @@
+//! The C functions, as `include/capstan.h` declares them.
+
+use super::{ContextAnswer, LengthAnswer, ReadAnswer, SearchAnswer};
+
+extern "C" {
+    pub fn capstan_read(
+        header: *const u8,
+        header_len: usize,
+        links: *mut usize,
+        link_slots: usize,
+        params: *mut usize,
+        param_slots: usize,
+    ) -> ReadAnswer;
+    pub fn capstan_search(
+        text: *const u8,
+        text_len: usize,
+        links: *const usize,
+        link_slots: usize,
+        params: *const usize,
+        param_slots: usize,
+        link_count: usize,
+        param_count: usize,
+        relation: *const u8,
+        relation_len: usize,
+    ) -> SearchAnswer;
+    pub fn capstan_context(
+        text: *const u8,
+        text_len: usize,
+        base: *const u8,
+        base_len: usize,
+        links: *const usize,
+        link_slots: usize,
+        params: *const usize,
+        param_slots: usize,
+        link_count: usize,
+        param_count: usize,
+        link: usize,
+    ) -> ContextAnswer;
+    pub fn capstan_value(
+        text: *const u8,
+        text_len: usize,
+        links: *const usize,
+        link_slots: usize,
+        params: *const usize,
+        param_slots: usize,
+        link_count: usize,
+        param_count: usize,
+        link: usize,
+        place: usize,
+        out: *mut u8,
+        out_len: usize,
+    ) -> LengthAnswer;
+    pub fn capstan_write(
+        text: *const u8,
+        text_len: usize,
+        links: *const usize,
+        link_slots: usize,
+        params: *const usize,
+        param_slots: usize,
+        link_count: usize,
+        param_count: usize,
+        out: *mut u8,
+        out_len: usize,
+    ) -> LengthAnswer;
+}

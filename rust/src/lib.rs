@@ -1,0 +1,60 @@
+//! HTTP `Link` field values (RFC 8288): read into tables that the caller lends, asked, and written
+//! back in one fixed form.
+//!
+//! The work is done by a static library whose promises are proved for every input; this crate makes
+//! it safe and pleasant to call. It allocates nothing and needs no `std`.
+//!
+//! ```
+//! use capstanbar::Table;
+//!
+//! let header = br#"</packs/7>; rel="prev", </packs/9>; rel="next"; title="Pack \"9\"""#;
+//! let (mut links, mut params) = ([0; 4 * 16], [0; 5 * 64]);
+//! let table = Table::read(header, &mut links, &mut params)?;
+//!
+//! let next = table.search(b"next")?;
+//! assert_eq!(next.target(), b"/packs/9");
+//!
+//! let mut room = [0; 64];
+//! let title = next.find(b"title").expect("it has a title");
+//! assert_eq!(title.value(&mut room)?, b"Pack \"9\"");
+//!
+//! for link in table.links() {
+//!     assert!(link.target().starts_with(b"/packs/"));
+//!     assert!(link.params().len() > 0);
+//! }
+//!
+//! let mut form = [0; capstanbar::LIMIT];
+//! let written: &[u8] = br#"</packs/7>; rel=prev, </packs/9>; rel=next; title="Pack \"9\"""#;
+//! assert_eq!(table.write(&mut form)?, written);
+//! # Ok::<(), capstanbar::Refusal>(())
+//! ```
+//!
+//! What can't be done is refused by a [`Refusal`]; a malformed header with the place where it went
+//! wrong. A refusal leaves everything lent as it was.
+//!
+//! ```
+//! use capstanbar::{read, Refusal};
+//!
+//! let refusal = read(b"<a>;rel=next;", &mut [0; 4], &mut [0; 5]).unwrap_err();
+//! assert_eq!(refusal, Refusal::Malformed { place: 13 });
+//! assert_eq!(refusal.to_string(), "malformed at octet 13");
+//! ```
+
+#![no_std]
+#![deny(unsafe_code)]
+#![warn(missing_docs)]
+
+pub mod ffi;
+mod limits;
+mod link;
+mod param;
+mod read;
+mod refusal;
+mod table;
+
+pub use limits::{LIMIT, LINK_SLOTS, PARAM_SLOTS};
+pub use link::{Link, Links};
+pub use param::{Form, Param, Params};
+pub use read::{read, Counts};
+pub use refusal::Refusal;
+pub use table::Table;

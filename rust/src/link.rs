@@ -1,0 +1,143 @@
+use crate::{Param, Params, Table};
+use core::ops::Range;
+
+/// A link of a table.
+///
+/// ```
+/// # let (mut links, mut params) = ([0; 8], [0; 10]);
+/// let table = capstanbar::Table::read(b"<a>;rel=next", &mut links, &mut params)?;
+/// let link = table.search(b"next")?;
+/// assert_eq!((link.number(), link.target()), (0, &b"a"[..]));
+/// # Ok::<(), capstanbar::Refusal>(())
+/// ```
+#[derive(Clone, Copy, Debug)]
+pub struct Link<'a> {
+    table: Table<'a>,
+    number: usize,
+}
+
+impl<'a> Link<'a> {
+    /// The number must be below the table's count of links.
+    pub(crate) fn of(table: Table<'a>, number: usize) -> Link<'a> {
+        Link { table, number }
+    }
+
+    /// Its number in the table.
+    ///
+    /// ```
+    /// # let (mut links, mut params) = ([0; 8], [0; 10]);
+    /// let table = capstanbar::Table::read(b"<a>, <b>", &mut links, &mut params)?;
+    /// assert!(table.links().map(|link| link.number()).eq([0, 1]));
+    /// # Ok::<(), capstanbar::Refusal>(())
+    /// ```
+    pub fn number(&self) -> usize {
+        self.number
+    }
+
+    /// The octets of its target.
+    ///
+    /// ```
+    /// # let (mut links, mut params) = ([0; 8], [0; 10]);
+    /// let table = capstanbar::Table::read(b"<http://a/%7Eb>", &mut links, &mut params)?;
+    /// assert_eq!(table.link(0).unwrap().target(), b"http://a/%7Eb");
+    /// # Ok::<(), capstanbar::Refusal>(())
+    /// ```
+    pub fn target(&self) -> &'a [u8] {
+        let [start, end, ..] = self.table.link_record(self.number);
+        &self.table.text()[start..end]
+    }
+
+    /// Its parameters in order.
+    ///
+    /// ```
+    /// # let (mut links, mut params) = ([0; 8], [0; 15]);
+    /// let header = b"<a>;x, <b>;hreflang=en;hreflang=de";
+    /// let table = capstanbar::Table::read(header, &mut links, &mut params)?;
+    /// let values = table.link(1).unwrap().params().map(|param| param.raw_value());
+    /// assert!(values.eq([&b"en"[..], b"de"]));
+    /// # Ok::<(), capstanbar::Refusal>(())
+    /// ```
+    pub fn params(&self) -> Params<'a> {
+        let [_, _, first, count] = self.table.link_record(self.number);
+        Params::of(self.table, self.number, first, count)
+    }
+
+    /// Its first parameter of that name, whatever the case of letters.
+    ///
+    /// ```
+    /// # let (mut links, mut params) = ([0; 8], [0; 10]);
+    /// let table = capstanbar::Table::read(b"<a>;x;Type=t", &mut links, &mut params)?;
+    /// let link = table.link(0).unwrap();
+    /// assert_eq!(link.find(b"type").unwrap().raw_value(), b"t");
+    /// assert!(link.find(b"title").is_none());
+    /// # Ok::<(), capstanbar::Refusal>(())
+    /// ```
+    pub fn find(&self, name: &[u8]) -> Option<Param<'a>> {
+        self.params()
+            .find(|param| param.name().eq_ignore_ascii_case(name))
+    }
+
+    /// Its context: its `anchor` value as written, also when empty, else the whole base.
+    ///
+    /// ```
+    /// # let (mut links, mut params) = ([0; 8], [0; 10]);
+    /// let header = b"<a>;anchor=x, <b>";
+    /// let table = capstanbar::Table::read(header, &mut links, &mut params)?;
+    /// let contexts = table.links().map(|link| link.context(b"base"));
+    /// assert!(contexts.eq([&b"x"[..], b"base"]));
+    /// # Ok::<(), capstanbar::Refusal>(())
+    /// ```
+    pub fn context<'c>(&self, base: &'c [u8]) -> &'c [u8]
+    where
+        'a: 'c,
+    {
+        self.table
+            .context(base, self.number)
+            .expect("the table is good and has this link")
+    }
+}
+
+/// The links of a table in order.
+///
+/// ```
+/// # let (mut links, mut params) = ([0; 8], [0; 10]);
+/// let table = capstanbar::Table::read(b"<a>, <b>", &mut links, &mut params)?;
+/// let mut links = table.links();
+/// assert_eq!(links.next().unwrap().target(), b"a");
+/// assert_eq!(links.len(), 1);
+/// # Ok::<(), capstanbar::Refusal>(())
+/// ```
+#[derive(Clone, Debug)]
+pub struct Links<'a> {
+    table: Table<'a>,
+    numbers: Range<usize>,
+}
+
+impl<'a> Links<'a> {
+    pub(crate) fn of(table: Table<'a>) -> Links<'a> {
+        let numbers = 0..table.counts().links;
+        Links { table, numbers }
+    }
+}
+
+impl<'a> Iterator for Links<'a> {
+    type Item = Link<'a>;
+
+    fn next(&mut self) -> Option<Link<'a>> {
+        let number = self.numbers.next()?;
+        Some(Link::of(self.table, number))
+    }
+
+    fn size_hint(&self) -> (usize, Option<usize>) {
+        self.numbers.size_hint()
+    }
+}
+
+impl DoubleEndedIterator for Links<'_> {
+    fn next_back(&mut self) -> Option<Self::Item> {
+        let number = self.numbers.next_back()?;
+        Some(Link::of(self.table, number))
+    }
+}
+
+impl ExactSizeIterator for Links<'_> {}

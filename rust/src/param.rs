@@ -1,0 +1,193 @@
+use crate::{Refusal, Table};
+use core::ops::Range;
+
+/// How a parameter's value is written.
+///
+/// ```
+/// use capstanbar::Form;
+///
+/// # let (mut links, mut params) = ([0; 4], [0; 15]);
+/// let table = capstanbar::Table::read(br#"<a>;x;y=z;t="u""#, &mut links, &mut params)?;
+/// let forms = table.link(0).unwrap().params().map(|param| param.form());
+/// assert!(forms.eq([Form::NoValue, Form::Token, Form::Quoted]));
+/// # Ok::<(), capstanbar::Refusal>(())
+/// ```
+#[derive(Clone, Copy, Debug, PartialEq, Eq, Hash)]
+#[non_exhaustive]
+pub enum Form {
+    /// There is no value, which means the empty one.
+    NoValue,
+    /// A token.
+    Token,
+    /// A quoted string.
+    Quoted,
+}
+
+/// A parameter of a link.
+///
+/// ```
+/// # let (mut links, mut params) = ([0; 4], [0; 5]);
+/// let table = capstanbar::Table::read(br#"<a>;Title="\b""#, &mut links, &mut params)?;
+/// let param = table.link(0).unwrap().params().next().unwrap();
+/// assert_eq!(param.name(), b"Title");
+/// assert_eq!(param.raw_value(), br"\b");
+/// assert_eq!(param.value(&mut [0; 2])?, b"b");
+/// # Ok::<(), capstanbar::Refusal>(())
+/// ```
+#[derive(Clone, Copy, Debug)]
+pub struct Param<'a> {
+    table: Table<'a>,
+    link: usize,
+    place: usize,
+    number: usize,
+}
+
+impl<'a> Param<'a> {
+    /// Its place within its link, from 0.
+    ///
+    /// ```
+    /// # let (mut links, mut params) = ([0; 8], [0; 10]);
+    /// let table = capstanbar::Table::read(b"<a>;x, <b>;y", &mut links, &mut params)?;
+    /// assert_eq!(table.link(1).unwrap().find(b"y").unwrap().place(), 0);
+    /// # Ok::<(), capstanbar::Refusal>(())
+    /// ```
+    pub fn place(&self) -> usize {
+        self.place
+    }
+
+    /// Its number, counted through the whole table.
+    ///
+    /// ```
+    /// # let (mut links, mut params) = ([0; 8], [0; 10]);
+    /// let table = capstanbar::Table::read(b"<a>;x, <b>;y", &mut links, &mut params)?;
+    /// assert_eq!(table.link(1).unwrap().find(b"y").unwrap().number(), 1);
+    /// # Ok::<(), capstanbar::Refusal>(())
+    /// ```
+    pub fn number(&self) -> usize {
+        self.number
+    }
+
+    /// The octets of its name as written.
+    ///
+    /// ```
+    /// # let (mut links, mut params) = ([0; 4], [0; 5]);
+    /// let table = capstanbar::Table::read(b"<a>;REL=x", &mut links, &mut params)?;
+    /// assert_eq!(table.link(0).unwrap().find(b"rel").unwrap().name(), b"REL");
+    /// # Ok::<(), capstanbar::Refusal>(())
+    /// ```
+    pub fn name(&self) -> &'a [u8] {
+        let [start, end, ..] = self.table.param_record(self.number);
+        &self.table.text()[start..end]
+    }
+
+    /// The octets of its value as written: those inside the quotes of a quoted string, backslashes
+    /// still there; none without a value.
+    ///
+    /// ```
+    /// # let (mut links, mut params) = ([0; 4], [0; 5]);
+    /// let table = capstanbar::Table::read(br#"<a>;t="b\"c""#, &mut links, &mut params)?;
+    /// assert_eq!(table.link(0).unwrap().find(b"t").unwrap().raw_value(), br#"b\"c"#);
+    /// # Ok::<(), capstanbar::Refusal>(())
+    /// ```
+    pub fn raw_value(&self) -> &'a [u8] {
+        let [_, _, start, end, _] = self.table.param_record(self.number);
+        &self.table.text()[start..end]
+    }
+
+    /// How its value is written.
+    ///
+    /// ```
+    /// # let (mut links, mut params) = ([0; 4], [0; 5]);
+    /// let table = capstanbar::Table::read(b"<a>;crossorigin", &mut links, &mut params)?;
+    /// let param = table.link(0).unwrap().find(b"crossorigin").unwrap();
+    /// assert_eq!(param.form(), capstanbar::Form::NoValue);
+    /// # Ok::<(), capstanbar::Refusal>(())
+    /// ```
+    pub fn form(&self) -> Form {
+        let [.., form] = self.table.param_record(self.number);
+        match form {
+            0 => Form::NoValue,
+            1 => Form::Token,
+            _ => Form::Quoted,
+        }
+    }
+
+    /// Copies the meaning of its value, as [`Table::value`] does.
+    ///
+    /// Refused: no output room. Room for [`raw_value`](Param::raw_value) is always enough.
+    ///
+    /// ```
+    /// use capstanbar::Refusal;
+    ///
+    /// # let (mut links, mut params) = ([0; 4], [0; 5]);
+    /// let table = capstanbar::Table::read(br#"<a>;t="b\"c""#, &mut links, &mut params)?;
+    /// let param = table.link(0).unwrap().find(b"t").unwrap();
+    /// assert_eq!(param.value(&mut [0; 3])?, br#"b"c"#);
+    /// assert_eq!(param.value(&mut [0; 2]), Err(Refusal::NoOutputRoom));
+    /// # Ok::<(), Refusal>(())
+    /// ```
+    pub fn value<'o>(&self, out: &'o mut [u8]) -> Result<&'o [u8], Refusal> {
+        self.table.value(self.link, self.place, out)
+    }
+}
+
+/// The parameters of a link in order.
+///
+/// ```
+/// # let (mut links, mut params) = ([0; 4], [0; 10]);
+/// let table = capstanbar::Table::read(b"<a>;x;y", &mut links, &mut params)?;
+/// let mut params = table.link(0).unwrap().params();
+/// assert_eq!(params.next_back().unwrap().name(), b"y");
+/// assert_eq!(params.len(), 1);
+/// # Ok::<(), capstanbar::Refusal>(())
+/// ```
+#[derive(Clone, Debug)]
+pub struct Params<'a> {
+    table: Table<'a>,
+    link: usize,
+    first: usize,
+    places: Range<usize>,
+}
+
+impl<'a> Params<'a> {
+    /// First and count are the ones of the link's record.
+    pub(crate) fn of(table: Table<'a>, link: usize, first: usize, count: usize) -> Params<'a> {
+        Params {
+            table,
+            link,
+            first,
+            places: 0..count,
+        }
+    }
+
+    fn at(&self, place: usize) -> Param<'a> {
+        Param {
+            table: self.table,
+            link: self.link,
+            place,
+            number: self.first + place,
+        }
+    }
+}
+
+impl<'a> Iterator for Params<'a> {
+    type Item = Param<'a>;
+
+    fn next(&mut self) -> Option<Param<'a>> {
+        let place = self.places.next()?;
+        Some(self.at(place))
+    }
+
+    fn size_hint(&self) -> (usize, Option<usize>) {
+        self.places.size_hint()
+    }
+}
+
+impl DoubleEndedIterator for Params<'_> {
+    fn next_back(&mut self) -> Option<Self::Item> {
+        let place = self.places.next_back()?;
+        Some(self.at(place))
+    }
+}
+
+impl ExactSizeIterator for Params<'_> {}

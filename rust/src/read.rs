@@ -1,0 +1,49 @@
+use crate::{ffi, Refusal};
+
+/// How many links and parameters a table holds.
+///
+/// ```
+/// use capstanbar::{read, Counts};
+///
+/// let counts = read(b"<a>;x;y,<b>", &mut [0; 8], &mut [0; 10]);
+/// assert_eq!(counts, Ok(Counts { links: 2, params: 2 }));
+/// ```
+#[derive(Clone, Copy, Debug, Default, PartialEq, Eq, Hash)]
+pub struct Counts {
+    /// Links.
+    pub links: usize,
+    /// Parameters of all the links.
+    pub params: usize,
+}
+
+/// Reads a field value into the slots lent, four a link and five a parameter, and answers how many
+/// of each there are. Slots past those used, and all slots on a refusal, keep what they held.
+///
+/// Refused in this order: too long, malformed, no link room, no parameter room.
+///
+/// [`Table::read`](crate::Table::read) does the same and hands back a view of what was read. To keep
+/// slots and counts apart from a view, read with this and make the view by
+/// [`Table::new`](crate::Table::new) when it is wanted.
+///
+/// ```
+/// use capstanbar::{read, Refusal};
+///
+/// let mut links = [7; 6];
+/// let mut params = [7; 5];
+/// let counts = read(b"<a>;rel=next", &mut links, &mut params)?;
+/// assert_eq!((counts.links, counts.params), (1, 1));
+/// assert_eq!(links, [1, 2, 0, 1, 7, 7]);
+/// assert_eq!(params, [4, 7, 8, 12, 1]);
+///
+/// assert_eq!(read(b"<a>,<b>", &mut links, &mut params), Err(Refusal::NoLinkRoom));
+/// assert_eq!(links, [1, 2, 0, 1, 7, 7]);
+/// # Ok::<(), Refusal>(())
+/// ```
+pub fn read(header: &[u8], links: &mut [usize], params: &mut [usize]) -> Result<Counts, Refusal> {
+    let answer = ffi::read(header, links, params);
+    Refusal::check(answer.number, answer.place)?;
+    Ok(Counts {
+        links: answer.links,
+        params: answer.params,
+    })
+}

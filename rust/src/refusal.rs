@@ -1,0 +1,101 @@
+use core::error::Error;
+use core::fmt;
+
+/// Why something wasn't done.
+///
+/// ```
+/// use capstanbar::{read, Refusal};
+///
+/// assert_eq!(read(b"<a>", &mut [], &mut []), Err(Refusal::NoLinkRoom));
+/// assert_eq!(read(b"<a%4g>", &mut [], &mut []), Err(Refusal::Malformed { place: 4 }));
+/// ```
+#[derive(Clone, Copy, Debug, PartialEq, Eq, Hash)]
+#[non_exhaustive]
+pub enum Refusal {
+    /// The header, the text or the written form has over [`LIMIT`](crate::LIMIT) octets.
+    TooLong,
+    /// The grammar doesn't derive the header.
+    Malformed {
+        /// How many octets stand in the longest part of the header, from its beginning, that some
+        /// right header begins with. A header cut short has its own length here.
+        place: usize,
+    },
+    /// The header has more links than room was lent for.
+    NoLinkRoom,
+    /// The header has more kept parameters than room was lent for.
+    NoParamRoom,
+    /// The table isn't good: its numbers don't describe links within the text.
+    BadTable,
+    /// A link to be written has no `rel`, or one with no relations.
+    NoRelation,
+    /// The output buffer is shorter than the result.
+    NoOutputRoom,
+    /// The link number isn't below the count.
+    NoSuchLink,
+    /// There is no such parameter, or no link has the relation.
+    NotFound,
+}
+
+impl Refusal {
+    /// The refusal's number, the one that the C interface answers.
+    ///
+    /// ```
+    /// use capstanbar::Refusal;
+    ///
+    /// assert_eq!(Refusal::TooLong.number(), 1);
+    /// assert_eq!(Refusal::Malformed { place: 13 }.number(), 2);
+    /// assert_eq!(Refusal::NotFound.number(), 9);
+    /// ```
+    pub const fn number(self) -> usize {
+        match self {
+            Refusal::TooLong => 1,
+            Refusal::Malformed { .. } => 2,
+            Refusal::NoLinkRoom => 3,
+            Refusal::NoParamRoom => 4,
+            Refusal::BadTable => 5,
+            Refusal::NoRelation => 6,
+            Refusal::NoOutputRoom => 7,
+            Refusal::NoSuchLink => 8,
+            Refusal::NotFound => 9,
+        }
+    }
+
+    /// What the answered number says: nothing refused, or the refusal. The place counts with number
+    /// 2 alone.
+    ///
+    /// The library is proved to answer no other number, so one past 9 means that the library linked
+    /// isn't the one this crate was made for.
+    pub(crate) fn check(number: usize, place: usize) -> Result<(), Refusal> {
+        Err(match number {
+            0 => return Ok(()),
+            1 => Refusal::TooLong,
+            2 => Refusal::Malformed { place },
+            3 => Refusal::NoLinkRoom,
+            4 => Refusal::NoParamRoom,
+            5 => Refusal::BadTable,
+            6 => Refusal::NoRelation,
+            7 => Refusal::NoOutputRoom,
+            8 => Refusal::NoSuchLink,
+            9 => Refusal::NotFound,
+            _ => panic!("the library answered the unknown number {number}"),
+        })
+    }
+}
+
+impl fmt::Display for Refusal {
+    fn fmt(&self, f: &mut fmt::Formatter<'_>) -> fmt::Result {
+        f.write_str(match self {
+            Refusal::TooLong => "more than 8,192 octets",
+            Refusal::Malformed { place } => return write!(f, "malformed at octet {place}"),
+            Refusal::NoLinkRoom => "more links than room",
+            Refusal::NoParamRoom => "more parameters than room",
+            Refusal::BadTable => "not a good table",
+            Refusal::NoRelation => "a link without a relation",
+            Refusal::NoOutputRoom => "output buffer too short",
+            Refusal::NoSuchLink => "no such link",
+            Refusal::NotFound => "not found",
+        })
+    }
+}
+
+impl Error for Refusal {}

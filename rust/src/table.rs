@@ -1,0 +1,273 @@
+use crate::ffi::{self, RawTable};
+use crate::{read, Counts, Link, Links, Refusal, LINK_SLOTS, PARAM_SLOTS};
+
+/// A good table: a text, and link and parameter records in slots that are lent as long as it lives.
+///
+/// It is made by reading, or from a caller's numbers, which are checked. So whatever is asked of it,
+/// its links and its parameters finds records that describe parts of the text, and accessors have
+/// nothing to refuse.
+///
+/// ```
+/// use capstanbar::{Refusal, Table};
+///
+/// let (mut links, mut params) = ([0; 8], [0; 10]);
+/// let table = Table::read(b"<a>;rel=next, <b>;rel=prev", &mut links, &mut params)?;
+/// let targets: Vec<&[u8]> = table.links().map(|link| link.target()).collect();
+/// assert_eq!(targets, [b"a", b"b"]);
+/// # Ok::<(), Refusal>(())
+/// ```
+///
+/// While it lives its slots can't be changed:
+///
+/// ```compile_fail,E0506
+/// let (mut links, mut params) = ([0; 4], [0; 5]);
+/// let table = capstanbar::Table::read(b"<a>", &mut links, &mut params).unwrap();
+/// links[1] = 9;
+/// table.link(0);
+/// ```
+#[derive(Clone, Copy, Debug)]
+pub struct Table<'a> {
+    raw: RawTable<'a>,
+}
+
+impl<'a> Table<'a> {
+    /// Reads a field value into the slots lent, as [`read`](crate::read()) does, and hands back a
+    /// view of it.
+    ///
+    /// ```
+    /// use capstanbar::{Refusal, Table};
+    ///
+    /// let (mut links, mut params) = ([0; 4], [0; 5]);
+    /// let table = Table::read(b"<a>;rel=next;rel=prev", &mut links, &mut params)?;
+    /// assert_eq!(table.counts().params, 1); // of `rel` only the first is kept
+    ///
+    /// let refused = Table::read(b"<a>,<b>", &mut links, &mut params);
+    /// assert_eq!(refused.unwrap_err(), Refusal::NoLinkRoom);
+    /// # Ok::<(), Refusal>(())
+    /// ```
+    pub fn read(
+        header: &'a [u8],
+        links: &'a mut [usize],
+        params: &'a mut [usize],
+    ) -> Result<Table<'a>, Refusal> {
+        let counts = read(header, links, params)?;
+        // What is read is good: the library is proved to leave a good table.
+        Ok(Table::of(header, links, params, counts))
+    }
+
+    /// Takes records made elsewhere, which may hold any numbers: a table that isn't good is refused.
+    ///
+    /// Refused in this order: too long, bad table.
+    ///
+    /// ```
+    /// use capstanbar::{Counts, Refusal, Table};
+    ///
+    /// let counts = Counts { links: 1, params: 1 };
+    /// let table = Table::new(b"rel/a", &[3, 5, 0, 1], &[0, 3, 4, 5, 1], counts)?;
+    /// assert_eq!(table.search(b"A")?.target(), b"/a");
+    ///
+    /// let past_the_end = Table::new(b"rel/a", &[3, 6, 0, 1], &[0, 3, 4, 5, 1], counts);
+    /// assert_eq!(past_the_end.unwrap_err(), Refusal::BadTable);
+    /// # Ok::<(), Refusal>(())
+    /// ```
+    pub fn new(
+        text: &'a [u8],
+        links: &'a [usize],
+        params: &'a [usize],
+        counts: Counts,
+    ) -> Result<Table<'a>, Refusal> {
+        let table = Table::of(text, links, params, counts);
+        // No link has the empty relation, so of a good table it isn't found.
+        match Refusal::check(ffi::search(table.raw, b"").number, 0) {
+            Ok(()) | Err(Refusal::NotFound) => Ok(table),
+            Err(refusal) => Err(refusal),
+        }
+    }
+
+    fn of(text: &'a [u8], links: &'a [usize], params: &'a [usize], counts: Counts) -> Table<'a> {
+        Table {
+            raw: RawTable {
+                text,
+                links,
+                params,
+                link_count: counts.links,
+                param_count: counts.params,
+            },
+        }
+    }
+
+    /// How many links and parameters it holds.
+    ///
+    /// ```
+    /// # let (mut links, mut params) = ([0; 8], [0; 10]);
+    /// let table = capstanbar::Table::read(b"<a>;x;y, <b>", &mut links, &mut params)?;
+    /// assert_eq!((table.counts().links, table.counts().params), (2, 2));
+    /// # Ok::<(), capstanbar::Refusal>(())
+    /// ```
+    pub fn counts(&self) -> Counts {
+        Counts {
+            links: self.raw.link_count,
+            params: self.raw.param_count,
+        }
+    }
+
+    /// The text that its records are places in.
+    ///
+    /// ```
+    /// # let (mut links, mut params) = ([0; 8], [0; 10]);
+    /// let table = capstanbar::Table::read(b" <a> ", &mut links, &mut params)?;
+    /// assert_eq!(table.text(), b" <a> ");
+    /// # Ok::<(), capstanbar::Refusal>(())
+    /// ```
+    pub fn text(&self) -> &'a [u8] {
+        self.raw.text
+    }
+
+    /// The table as the C interface takes it.
+    ///
+    /// ```
+    /// # let (mut links, mut params) = ([0; 8], [0; 10]);
+    /// let table = capstanbar::Table::read(b"<a>", &mut links, &mut params)?;
+    /// assert_eq!(table.raw().links[..4], [1, 2, 0, 0]);
+    /// # Ok::<(), capstanbar::Refusal>(())
+    /// ```
+    pub fn raw(&self) -> RawTable<'a> {
+        self.raw
+    }
+
+    /// The link of that number, if it is below the count.
+    ///
+    /// ```
+    /// # let (mut links, mut params) = ([0; 8], [0; 10]);
+    /// let table = capstanbar::Table::read(b"<a>, <b>", &mut links, &mut params)?;
+    /// assert_eq!(table.link(1).unwrap().target(), b"b");
+    /// assert!(table.link(2).is_none());
+    /// # Ok::<(), capstanbar::Refusal>(())
+    /// ```
+    pub fn link(&self, number: usize) -> Option<Link<'a>> {
+        (number < self.raw.link_count).then(|| Link::of(*self, number))
+    }
+
+    /// The links in order.
+    ///
+    /// ```
+    /// # let (mut links, mut params) = ([0; 8], [0; 10]);
+    /// let table = capstanbar::Table::read(b"<a>, <b>", &mut links, &mut params)?;
+    /// assert_eq!(table.links().len(), 2);
+    /// assert_eq!(table.links().next_back().unwrap().target(), b"b");
+    /// # Ok::<(), capstanbar::Refusal>(())
+    /// ```
+    pub fn links(&self) -> Links<'a> {
+        Links::of(*self)
+    }
+
+    /// The lowest link that has the relation, whatever the case of letters.
+    ///
+    /// Refused: not found. An empty relation, or one with a space, is never found.
+    ///
+    /// ```
+    /// use capstanbar::{Refusal, Table};
+    ///
+    /// # let (mut links, mut params) = ([0; 8], [0; 10]);
+    /// let table = Table::read(br#"<a>;rel=up, <b>;rel="start NEXT""#, &mut links, &mut params)?;
+    /// assert_eq!(table.search(b"next")?.number(), 1);
+    /// assert_eq!(table.search(b"prev").unwrap_err(), Refusal::NotFound);
+    /// # Ok::<(), Refusal>(())
+    /// ```
+    pub fn search(&self, relation: &[u8]) -> Result<Link<'a>, Refusal> {
+        let answer = ffi::search(self.raw, relation);
+        Refusal::check(answer.number, 0)?;
+        Ok(Link::of(*self, answer.link))
+    }
+
+    /// The context of the link of that number: its `anchor` value as written, also when empty, else
+    /// the whole base.
+    ///
+    /// Refused: no such link.
+    ///
+    /// ```
+    /// use capstanbar::{Refusal, Table};
+    ///
+    /// # let (mut links, mut params) = ([0; 8], [0; 10]);
+    /// let table = Table::read(br##"<a>;anchor="#foo", <b>"##, &mut links, &mut params)?;
+    /// assert_eq!(table.context(b"/base", 0)?, b"#foo");
+    /// assert_eq!(table.context(b"/base", 1)?, b"/base");
+    /// assert_eq!(table.context(b"/base", 2), Err(Refusal::NoSuchLink));
+    /// # Ok::<(), Refusal>(())
+    /// ```
+    pub fn context<'c>(&self, base: &'c [u8], link: usize) -> Result<&'c [u8], Refusal>
+    where
+        'a: 'c,
+    {
+        let answer = ffi::context(self.raw, base, link);
+        Refusal::check(answer.number, 0)?;
+        let whole = if answer.source == 1 {
+            self.raw.text
+        } else {
+            base
+        };
+        Ok(&whole[answer.start..answer.end])
+    }
+
+    /// Copies the meaning of a parameter's value, its backslashes taken out, to the beginning of the
+    /// output, and hands back what was copied. The parameter is named by the number of its link and
+    /// its place within that link.
+    ///
+    /// Refused in this order: no such link, not found, no output room. Room for the value as written
+    /// is always enough.
+    ///
+    /// ```
+    /// use capstanbar::{Refusal, Table};
+    ///
+    /// # let (mut links, mut params) = ([0; 8], [0; 10]);
+    /// let table = Table::read(br#"<a>;title="say \"hi\"""#, &mut links, &mut params)?;
+    /// let mut out = [0; 8];
+    /// assert_eq!(table.value(0, 0, &mut out)?, b"say \"hi\"");
+    /// assert_eq!(table.value(0, 1, &mut out), Err(Refusal::NotFound));
+    /// assert_eq!(table.value(0, 0, &mut out[..7]), Err(Refusal::NoOutputRoom));
+    /// # Ok::<(), Refusal>(())
+    /// ```
+    pub fn value<'o>(
+        &self,
+        link: usize,
+        place: usize,
+        out: &'o mut [u8],
+    ) -> Result<&'o [u8], Refusal> {
+        let answer = ffi::value(self.raw, link, place, out);
+        Refusal::check(answer.number, 0)?;
+        Ok(&out[..answer.length])
+    }
+
+    /// Writes the table in its one fixed form to the beginning of the output, and hands back what
+    /// was written. Names are folded to lower case; a value stands bare if it is a token.
+    ///
+    /// Refused in this order: no relation, too long, no output room. [`LIMIT`](crate::LIMIT) octets
+    /// of room are always enough.
+    ///
+    /// ```
+    /// use capstanbar::{Refusal, Table};
+    ///
+    /// # let (mut links, mut params) = ([0; 8], [0; 10]);
+    /// let table = Table::read(br#" <a> ;REL = "ne\xt" ,"#, &mut links, &mut params)?;
+    /// assert_eq!(table.write(&mut [0; 32])?, b"<a>; rel=next");
+    ///
+    /// let table = Table::read(b"<a>", &mut links, &mut params)?;
+    /// assert_eq!(table.write(&mut [0; 32]), Err(Refusal::NoRelation));
+    /// # Ok::<(), Refusal>(())
+    /// ```
+    pub fn write<'o>(&self, out: &'o mut [u8]) -> Result<&'o [u8], Refusal> {
+        let answer = ffi::write(self.raw, out);
+        Refusal::check(answer.number, 0)?;
+        Ok(&out[..answer.length])
+    }
+
+    /// The record of a link below the count.
+    pub(crate) fn link_record(&self, number: usize) -> [usize; LINK_SLOTS] {
+        self.raw.links.as_chunks().0[number]
+    }
+
+    /// The record of a parameter below the count.
+    pub(crate) fn param_record(&self, number: usize) -> [usize; PARAM_SLOTS] {
+        self.raw.params.as_chunks().0[number]
+    }
+}

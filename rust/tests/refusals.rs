@@ -1,0 +1,51 @@
+//! Every refusal with its number and words, and what a refusal leaves alone.
+
+use capstanbar::{read, Refusal, Table};
+
+#[test]
+fn numbers_and_words() {
+    let all = [
+        (Refusal::TooLong, "more than 8,192 octets"),
+        (Refusal::Malformed { place: 7 }, "malformed at octet 7"),
+        (Refusal::NoLinkRoom, "more links than room"),
+        (Refusal::NoParamRoom, "more parameters than room"),
+        (Refusal::BadTable, "not a good table"),
+        (Refusal::NoRelation, "a link without a relation"),
+        (Refusal::NoOutputRoom, "output buffer too short"),
+        (Refusal::NoSuchLink, "no such link"),
+        (Refusal::NotFound, "not found"),
+    ];
+    for (number, (refusal, words)) in (1..).zip(all) {
+        assert_eq!(refusal.number(), number);
+        assert_eq!(refusal.to_string(), words);
+        let error: &dyn std::error::Error = &refusal;
+        assert!(error.source().is_none());
+    }
+}
+
+#[test]
+fn reading_leaves_the_slots_alone() {
+    for (header, refusal) in [
+        (&[b'<'; 8193][..], Refusal::TooLong),
+        (b"<a>;", Refusal::Malformed { place: 4 }),
+        (b"<a>,<b>,<c>", Refusal::NoLinkRoom),
+        (b"<a>;x;y;z", Refusal::NoParamRoom),
+    ] {
+        let (mut links, mut params) = ([7; 11], [8; 14]);
+        assert_eq!(read(header, &mut links, &mut params), Err(refusal));
+        assert_eq!((links, params), ([7; 11], [8; 14]));
+    }
+}
+
+#[test]
+fn output_is_left_alone() {
+    let (mut links, mut params) = ([0; 8], [0; 10]);
+    let header = b"<a>;rel=next,<b>;rel=\"\"";
+    let table = Table::read(header, &mut links, &mut params).unwrap();
+    let mut out = [9; 3];
+    assert_eq!(table.write(&mut out), Err(Refusal::NoRelation));
+    assert_eq!(table.value(0, 0, &mut out), Err(Refusal::NoOutputRoom));
+    assert_eq!(table.value(0, 1, &mut out), Err(Refusal::NotFound));
+    assert_eq!(table.value(2, 0, &mut out), Err(Refusal::NoSuchLink));
+    assert_eq!(out, [9; 3]);
+}
