@@ -1,12 +1,13 @@
 -- What has been seen tells which of the six names stood earlier.
-use Prim.Native.Nat.{ℕ, zero, suc, _≤_}
+use Prim.Native.Nat.{ℕ, zero, suc, _≤_, _<_}
 use native.Mathlib.Omega.{arith}
 use mathlib.Core.Path.{_≡_, refl, sym, ap, subst, _∙_}
 use mathlib.Core.Bool.{Bool, true, false, _&&_, _||_, and-false, or-false, or-comm, false≢true}
 use mathlib.Core.List.{List, [], _∷_}
-use lib.Dec.{eqb}
-use borrow.Author.Tests.{eq-eqb, ne-eqb}
+use lib.Dec.{eqb, ltb}
+use borrow.Author.Tests.{eq-eqb, ne-eqb, ltb-true}
 use Rattle.octets.specs.Fold.{same}
+use Rattle.octets.proofs.Octets.{every, every-at, agree, agreed}
 use Rattle.octets.proofs.Laws.{same-sound, same-refl}
 use Rattle.grammar.specs.Kept.{among, isOnce}
 use Rattle.names.specs.Code.{codeOf}
@@ -18,41 +19,33 @@ no-code : (x : Seen) → hasCode x 0 ≡ false
 unfolding hasCode
 no-code x = refl
 
-none-has : (k : ℕ) → hasCode noneSeen k ≡ false
+-- what holds of every mark and every code, by one test that is computed at each
+none-has : (k : ℕ) → k ≤ 6 → hasCode noneSeen k ≡ false
 unfolding hasCode noneSeen
-none-has k = simp and-false
+none-has k h = agreed (hasCode noneSeen k) false (every-at (λ j. agree (hasCode noneSeen j) false) 7 refl k (omega arith))
 
--- the mark of code 1 + k
-abbrev mark : Seen → ℕ → Bool
-mark x zero = x .rel
-mark x (suc zero) = x .anchor
-mark x (suc (suc zero)) = x .media
-mark x (suc (suc (suc zero))) = x .title
-mark x (suc (suc (suc (suc zero)))) = x .«title_ext»
-mark x (suc (suc (suc (suc (suc k))))) = x .«type_hint»
+module _ (x : Seen) (l : x .marks < 128) (c : ℕ) (h : c ≤ 6) where
+  with-fits : withCode x c .marks < 128
+  unfolding withCode
+  with-fits =
+      ltb-true (withCode x c .marks) 128
+      (every-at (λ d. ltb (withCode x d .marks) 128) 7
+      (every-at (λ n. every (λ d. ltb (withCode (record { marks = n }) d .marks) 128) 7) 128 refl (x .marks) l)
+      c (omega arith))
 
-has-mark : (x : Seen) (k : ℕ) → k ≤ 5 → hasCode x (suc k) ≡ mark x k
-unfolding hasCode
-has-mark x zero h = simp or-false
-has-mark x (suc zero) h = simp or-false
-has-mark x (suc (suc zero)) h = simp or-false
-has-mark x (suc (suc (suc zero))) h = simp or-false
-has-mark x (suc (suc (suc (suc zero)))) h = simp or-false
-has-mark x (suc (suc (suc (suc (suc zero))))) h = refl
-has-mark x (suc (suc (suc (suc (suc (suc k)))))) h = absurd (omega arith)
-
-mark-with : (x : Seen) (c k : ℕ) → k ≤ 5 → mark (withCode x c) k ≡ (mark x k || eqb c (suc k))
-unfolding withCode
-mark-with x c zero h = refl
-mark-with x c (suc zero) h = refl
-mark-with x c (suc (suc zero)) h = refl
-mark-with x c (suc (suc (suc zero))) h = refl
-mark-with x c (suc (suc (suc (suc zero)))) h = refl
-mark-with x c (suc (suc (suc (suc (suc zero))))) h = refl
-mark-with x c (suc (suc (suc (suc (suc (suc k)))))) h = absurd (omega arith)
-
-has-with : (x : Seen) (c k : ℕ) → k ≤ 5 → hasCode (withCode x c) (suc k) ≡ (hasCode x (suc k) || eqb c (suc k))
-has-with x c k h = rw (has-mark (withCode x c) k h, has-mark x k h) (mark-with x c k h)
+  has-with : (k : ℕ) → k ≤ 5 → hasCode (withCode x c) (suc k) ≡ (hasCode x (suc k) || eqb c (suc k))
+  unfolding hasCode withCode
+  has-with k b =
+      agreed (hasCode (withCode x c) (suc k)) (hasCode x (suc k) || eqb c (suc k))
+      (every-at (λ j. agree (hasCode (withCode x c) (suc j)) (hasCode x (suc j) || eqb c (suc j))) 6
+      (every-at (λ d. every (λ j. agree (hasCode (withCode x d) (suc j)) (hasCode x (suc j) || eqb d (suc j))) 6) 7
+      (every-at (λ n. every (λ d. every (marked n d) 6) 7) 128 refl (x .marks) l)
+      c (omega arith))
+      k (omega arith))
+    where
+      marked : ℕ → ℕ → ℕ → Bool
+      marked n d j =
+          agree (hasCode (withCode (record { marks = n }) d) (suc j)) (hasCode (record { marks = n }) (suc j) || eqb d (suc j))
 
 -- the code of m is that of one of the six names, n, just if m is n
 same-told : (m n : List ℕ) → (codeOf n ≡ 0 → ⊥) → eqb (codeOf m) (codeOf n) ≡ same n m
@@ -67,7 +60,8 @@ same-told m n o = go (same n m) refl
 
 -- at the start of a link
 pub nothing-seen : {r : Seen} → r ≡ noneSeen → Holds r []
-nothing-seen q = record { tells = λ n. rw (q, none-has (codeOf n), and-false) }
+unfolding noneSeen
+nothing-seen q = record { fits = rw q (omega arith); tells = λ n. rw (q, none-has (codeOf n) (code-bound n), and-false) }
 
 module _ {x : Seen} {earlier : List (List ℕ)} (h : Holds x earlier) (n : List ℕ) {c : ℕ} (q : c ≡ codeOf n) where
   -- the answer to a name's code is the answer to the name
@@ -76,12 +70,16 @@ module _ {x : Seen} {earlier : List (List ℕ)} (h : Holds x earlier) (n : List 
 
   -- behind one more name
   pub seen-with : {r : Seen} → r ≡ withCode x c → Holds r (n ∷ earlier)
-  seen-with e = record { tells = λ m. rw (e, q) (go m (codeOf m) refl) }
+  seen-with e =
+      record {
+        fits = rw (e, q) (with-fits x (h .fits) (codeOf n) (code-bound n));
+        tells = λ m. rw (e, q) (go m (codeOf m) refl);
+      }
     where
       go : (m : List ℕ) (k : ℕ) → codeOf m ≡ k
           → hasCode (withCode x (codeOf n)) (codeOf m) ≡ (isOnce m && among (n ∷ earlier) m)
       go m zero z = rw (once-code m, z) (no-code (withCode x (codeOf n)))
       go m (suc k) z =
           let six : isOnce m ≡ true = rw (once-code m, z, ne-eqb (suc k) 0 (λ y. omega arith)) in
-          rw (z, has-with x (codeOf n) k (omega (arith, code-bound m)), ← z, h .tells m, same-told n m (λ y. omega arith), six)
+          rw (z, has-with x (h .fits) (codeOf n) (code-bound n) k (omega (arith, code-bound m)), ← z, h .tells m, same-told n m (λ y. omega arith), six)
           (or-comm (among earlier m) (same m n))

@@ -1,35 +1,26 @@
--- Which of the six names have been seen.
-use Prim.Native.Nat.{ℕ}
+-- Which of the six names have been seen: the bit of a name's code is set.
+use Prim.Native.Nat.{ℕ, _/_, _%_, _^_, _<_}
 use mathlib.Core.Path.{_≡_}
-use mathlib.Core.Bool.{Bool, false, _&&_, _||_}
+use mathlib.Core.Bool.{Bool, not, _&&_}
 use mathlib.Core.List.{List}
+use lib.Bits.{bitOr}
 use lib.Dec.{eqb}
 use Rattle.grammar.specs.Kept.{among, isOnce}
 use Rattle.names.specs.Code.{codeOf}
 use Rattle.names.specs.declared.Seen.{Seen}
 
 unfoldable pub noneSeen : Seen
-noneSeen =
-    record { rel = false; anchor = false; media = false; title = false; «title_ext» = false; «type_hint» = false }
+noneSeen = record { marks = 0 }
 
 -- the name of code k is among those seen
 unfoldable pub hasCode : Seen → ℕ → Bool
-hasCode x k =
-    ((((((eqb k 1 && x .rel) || (eqb k 2 && x .anchor)) || (eqb k 3 && x .media)) || (eqb k 4 && x .title))
-    || (eqb k 5 && x .«title_ext»)) || (eqb k 6 && x .«type_hint»))
+hasCode x k = not (eqb k 0) && eqb (x .marks / 2 ^ (k % 8) % 2) 1
 
 -- and the name of code k besides
 unfoldable pub withCode : Seen → ℕ → Seen
-withCode x k =
-    record {
-      rel = x .rel || eqb k 1;
-      anchor = x .anchor || eqb k 2;
-      media = x .media || eqb k 3;
-      title = x .title || eqb k 4;
-      «title_ext» = x .«title_ext» || eqb k 5;
-      «type_hint» = x .«type_hint» || eqb k 6;
-    }
+withCode x k = record { marks = bitOr (x .marks) (2 ^ (k % 8)) }
 
 -- x tells which of the six names are among those listed
 pub record Holds (x : Seen) (earlier : List (List ℕ)) : Type 0 where
+  pub fits : x .marks < 128
   pub tells : (n : List ℕ) → hasCode x (codeOf n) ≡ (isOnce n && among earlier n)

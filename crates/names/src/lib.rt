@@ -8,40 +8,23 @@ ghost use Rattle.names.specs.Code.{codeOf};
 ghost use Rattle.names.specs.Holds.{noneSeen, hasCode, withCode};
 use octets::compare::same_folded;
 
-// Which of the six names stood earlier in a link.
+// Which of the six names stood earlier in a link: the bit of a name's code is set.
 pub struct Seen {
-    rel: bool,
-    anchor: bool,
-    media: bool,
-    title: bool,
-    title_ext: bool,
-    type_hint: bool,
+    marks: u8,
 }
 
 impl Seen {
     pub fn none() -> Seen
         ensures { λ r. ⌜ r ≡ noneSeen ⌝ }
     {
-        Seen {
-            rel: false,
-            anchor: false,
-            media: false,
-            title: false,
-            title_ext: false,
-            type_hint: false,
-        }
+        Seen { marks: 0 }
     }
 
     // Whether the name of this code has been seen. Code 0 never is.
     pub fn has(self, code: u8) -> bool
         ensures { λ r. ⌜ r ≡ hasCode self code ⌝ }
     {
-        ((code == 1) & self.rel)
-            | ((code == 2) & self.anchor)
-            | ((code == 3) & self.media)
-            | ((code == 4) & self.title)
-            | ((code == 5) & self.title_ext)
-            | ((code == 6) & self.type_hint)
+        (code != 0) & ((self.marks >> (code % 8)) % 2 == 1)
     }
 
     // What has been seen behind one more name, of this code.
@@ -49,12 +32,7 @@ impl Seen {
         ensures { λ r. ⌜ r ≡ withCode self code ⌝ }
     {
         Seen {
-            rel: self.rel | (code == 1),
-            anchor: self.anchor | (code == 2),
-            media: self.media | (code == 3),
-            title: self.title | (code == 4),
-            title_ext: self.title_ext | (code == 5),
-            type_hint: self.type_hint | (code == 6),
+            marks: self.marks | (1 << (code % 8)),
         }
     }
 }

@@ -63,3 +63,17 @@ oneOf-octets (x ∷ xs) e c h =
     or-octets (one-octets x (ltb-true x 256 (both (ltb x 256) (allOctets xs) e .0)))
     (oneOf-octets xs (both (ltb x 256) (allOctets xs) e .1))
     c h
+
+-- two tests that agree at every octet
+abbrev pub agree : Bool → Bool → Bool
+agree true b = b
+agree false b = not b
+
+pub agreed : (a b : Bool) → agree a b ≡ true → a ≡ b
+agreed true true e = refl
+agreed true false e = absurd (false≢true e)
+agreed false true e = absurd (false≢true e)
+agreed false false e = refl
+
+pub alike : (f g : ℕ → Bool) → every (λ c. agree (f c) (g c)) 256 ≡ true → (c : ℕ) → c < 256 → f c ≡ g c
+alike f g e c h = agreed (f c) (g c) (every-at (λ k. agree (f k) (g k)) 256 e c h)

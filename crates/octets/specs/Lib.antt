@@ -1,4 +1,5 @@
 -- What the crate `octets` means by its words.
 pub mod Text
 pub mod Sets
+pub mod Bits
 pub mod Fold

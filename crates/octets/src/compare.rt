@@ -1,6 +1,7 @@
 // Comparison of texts with A to Z read as a to z.
 ghost use mathlib.Core.Path.{_≡_};
 ghost use Prim.Native.Nat.{_≤_};
+ghost use lib.Dec.{eqb};
 ghost use lib.ListN.{length};
 ghost use lib.Seq.{slice};
 ghost use Rattle.octets.specs.Fold.{fold, sameFolded};
@@ -12,6 +13,15 @@ pub fn fold(c: u8) -> u8
     if (b'A' <= c) & (c <= b'Z') { c + 32 } else { c }
 }
 
+// Whether two octets are the same once folded: they are the same, or one is a small letter and the other its capital.
+fn same_octet(c: u8, d: u8) -> bool
+    ensures { λ r. ⌜ r ≡ eqb (fold c) (fold d) ⌝ }
+{
+    (c == d)
+        | ((b'a' <= d) & (d <= b'z') & (c as u32 + 32 == d as u32))
+        | ((b'a' <= c) & (c <= b'z') & (d as u32 + 32 == c as u32))
+}
+
 // Whether the texts are the same once folded. Texts of different lengths never are, and the first pair that differs decides.
 pub fn same_folded(x: &[u8], y: &[u8]) -> bool
     ensures { λ r. ⌜ r ≡ sameFolded (now (x .entry)) (now (y .entry)) ⌝ }
@@ -21,7 +31,7 @@ pub fn same_folded(x: &[u8], y: &[u8]) -> bool
     }
     let mut i = 0;
     while i < x.len() {
-        if fold(x[i]) != fold(y[i]) {
+        if !same_octet(x[i], y[i]) {
             return false;
         }
         i += 1;

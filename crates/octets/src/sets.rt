@@ -1,6 +1,8 @@
-// A test for each set of octets that the grammar names. Each is one expression with no branch, in the order of its definition.
+// A test for each set of octets that the grammar names. The larger sets are held as bits, so that a test has no chain of comparisons
+// and no branch that depends on which octet of the set it is.
 ghost use mathlib.Core.Path.{_≡_};
 ghost use Rattle.octets.specs.Sets.{isBlank, isToken, isPlain, isEscapable, isTarget, isHex};
+use crate::bits::in_bits;
 
 // SP or HTAB.
 pub fn is_blank(c: u8) -> bool
@@ -9,40 +11,21 @@ pub fn is_blank(c: u8) -> bool
     (c == b' ') | (c == b'\t')
 }
 
-// An octet of a token.
+// An octet of a token. Most are small letters.
 pub fn is_token(c: u8) -> bool
     ensures { λ r. ⌜ r ≡ isToken c ⌝ }
 {
-    ((b'A' <= c) & (c <= b'Z'))
-        | ((b'a' <= c) & (c <= b'z'))
-        | ((b'0' <= c) & (c <= b'9'))
-        | (c == b'!')
-        | (c == b'#')
-        | (c == b'$')
-        | (c == b'%')
-        | (c == b'&')
-        | (c == b'\'')
-        | (c == b'*')
-        | (c == b'+')
-        | (c == b'-')
-        | (c == b'.')
-        | (c == b'^')
-        | (c == b'_')
-        | (c == b'`')
-        | (c == b'|')
-        | (c == b'~')
+    if (b'a' <= c) & (c <= b'z') {
+        return true;
+    }
+    in_bits(0x03ff_6cfa_0000_0000, 0x57ff_ffff_c7ff_fffe, c)
 }
 
 // An octet that stands for itself in a quoted string.
 pub fn is_plain(c: u8) -> bool
     ensures { λ r. ⌜ r ≡ isPlain c ⌝ }
 {
-    (c == b'\t')
-        | (c == b' ')
-        | (c == b'!')
-        | ((35 <= c) & (c <= 91))
-        | ((93 <= c) & (c <= 126))
-        | (128 <= c)
+    (128 <= c) | in_bits(0xffff_fffb_0000_0200, 0x7fff_ffff_efff_ffff, c)
 }
 
 // An octet that may follow a backslash in a quoted string.
@@ -56,31 +39,7 @@ pub fn is_escapable(c: u8) -> bool
 pub fn is_target(c: u8) -> bool
     ensures { λ r. ⌜ r ≡ isTarget c ⌝ }
 {
-    ((b'A' <= c) & (c <= b'Z'))
-        | ((b'a' <= c) & (c <= b'z'))
-        | ((b'0' <= c) & (c <= b'9'))
-        | (c == b'-')
-        | (c == b'.')
-        | (c == b'_')
-        | (c == b'~')
-        | (c == b':')
-        | (c == b'/')
-        | (c == b'?')
-        | (c == b'#')
-        | (c == b'[')
-        | (c == b']')
-        | (c == b'@')
-        | (c == b'!')
-        | (c == b'$')
-        | (c == b'&')
-        | (c == b'\'')
-        | (c == b'(')
-        | (c == b')')
-        | (c == b'*')
-        | (c == b'+')
-        | (c == b',')
-        | (c == b';')
-        | (c == b'=')
+    in_bits(0xafff_ffda_0000_0000, 0x47ff_fffe_afff_ffff, c)
 }
 
 // A hex digit of either case.

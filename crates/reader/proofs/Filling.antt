@@ -25,10 +25,10 @@ use Rattle.names.specs.declared.Seen.{Seen}
 use Rattle.names.specs.Code.{codeOf}
 use Rattle.names.specs.Holds.{noneSeen, hasCode, withCode}
 use Rattle.names.proofs.Seeing.{has-told}
-use Rattle.scanner.specs.declared.ParamScan.{ParamScan}
-use Rattle.scanner.specs.declared.ParamScan.the-variants.{NoParam, Param as AParam}
 use Rattle.scanner.specs.Stands.{Stands, Ready}
-use Rattle.scanner.specs.Scanned.{ParamScanned, no-param, param as a-param}
+use Rattle.scanner.specs.Scanned.{param as a-param}
+use Rattle.scanner.specs.Parsed.{Parsed}
+use Rattle.scanner.specs.Known.{KnownParam}
 use Rattle.scanner.proofs.Standing.{stands-run}
 use Rattle.scanner.proofs.Links.{Along, begin, on, holding, kept-more, keep-more, chain-ready, ready-blanks, ready-semi}
 use Rattle.tables.proofs.Filled.{records-length}
@@ -84,20 +84,23 @@ module _ {s old : List ℕ} {a m : ℕ} (b : BeforeParams s old a m) where
         written = w .written;
       }
 
-  -- a parameter that doesn't fit can't stand there
-  pub always-fits : {A : Type 0} {i j k e n : ℕ} {x : Seen} {new : List ℕ} {u : ParamScan} {v : ℕ} → Writing s a m old i n x new
-      → Passed isBlank s i j → At s j 59 → k ≡ j + 1 → Passed isBlank s k e → ParamScanned s e u → u ≡ NoParam (record { 0 = v })
-      → A
-  always-fits {A} {j = j} {e = e} w p q l r z t = go (subst (ParamScanned s e) t z)
-    where
-      go : {v : ℕ} → ParamScanned s e (NoParam (record { 0 = v })) → A
-      go (no-param f) =
-          absurd
-          (f (holding (b .links) (b .from) (b .to) (w .params))
-          (stands-run (λ i x y. rw y) (r .run)
-          (subst (Stands s (semi (holding (b .links) (b .from) (b .to) (w .params)))) (sym (l ∙ add-one j))
-          (ready-semi (ready-blanks (ready-here (w .along)) (p .run)) q)))
-          .malformed (b .all) (b .derived))
+  -- behind a semicolon and blanks, a parameter is known to stand
+  pub known-param : {i j k e n : ℕ} {x : Seen} {new : List ℕ} → Writing s a m old i n x new → Passed isBlank s i j → At s j 59
+      → k ≡ j + 1 → Passed isBlank s k e → KnownParam s e
+  known-param {j = j} w p q l r =
+      let o = holding (b .links) (b .from) (b .to) (w .params) in
+      record {
+        link = o;
+        known =
+            record {
+              all = b .all;
+              derived = b .derived;
+              stands =
+                  stands-run (λ i x y. rw y) (r .run)
+                  (subst (Stands s (semi o)) (sym (l ∙ add-one j)) (ready-semi (ready-blanks (ready-here (w .along)) (p .run)) q));
+            };
+        clear = record { inside = r .inside; clear = r .stops };
+      }
 
   pub written-length : {i n : ℕ} {x : Seen} {new : List ℕ} (w : Writing s a m old i n x new) → length new ≡ length old
   written-length w =
@@ -106,12 +109,11 @@ module _ {s old : List ℕ} {a m : ℕ} (b : BeforeParams s old a m) where
       (omega (arith, room-here (w .along), records-length (keepAfter s [] (reverse (w .params))), w .along .kept))
 
   -- one parameter more
-  module _ {i j k e n c : ℕ} {x : Seen} {new : List ℕ} {r : ParamRecord} {d : Cursor} {u : ParamScan} {z : Bool}
-      (w : Writing s a m old i n x new) (p : Passed isBlank s i j) (q : At s j 59) (l : k ≡ j + 1) (v : Passed isBlank s k e)
-      (f : ParamScanned s e u) (g : u ≡ AParam r d)
+  module _ {i j k e n c d : ℕ} {x : Seen} {new : List ℕ} {r : ParamRecord} {z : Bool} (w : Writing s a m old i n x new)
+      (p : Passed isBlank s i j) (q : At s j 59) (l : k ≡ j + 1) (v : Passed isBlank s k e) (f : Parsed s e (toParam r) d)
       (h : c ≡ codeOf (folded (slice (r .name .from .0) (r .name .to .0) s))) (o : z ≡ hasCode x c) where
-    along-more : Along s a (d .at .0) (w .count + cond z 0 1) (withCode x c) (toParam r ∷ w .params)
-    along-more = on (w .along) p q l v f g h o refl refl
+    along-more : Along s a d (w .count + cond z 0 1) (withCode x c) (toParam r ∷ w .params)
+    along-more = on {d = record { at = record { 0 = d } }} (w .along) p q l v (a-param f) refl h o refl refl
 
     pub keep-room : z ≡ false → 5 * n + 5 ≤ length new
     keep-room y =
@@ -139,13 +141,13 @@ module _ {s old : List ℕ} {a m : ℕ} (b : BeforeParams s old a m) where
 
     pub written-on : {n′ : ℕ} {y : Seen} {new′ : List ℕ}
         → (n′ ≡ n + cond z 0 1) × (new′ ≡ cond z new (over new (5 * n) (paramNumbers r))) → y ≡ withCode x c
-        → Writing s a m old (d .at .0) n′ y new′
+        → Writing s a m old d n′ y new′
     unfolding kept
     written-on t y =
         record {
           count = w .count + cond z 0 1;
           params = toParam r ∷ w .params;
-          along = subst (λ (g : Seen). Along s a (d .at .0) (w .count + cond z 0 1) g (toParam r ∷ w .params)) (sym y) along-more;
+          along = subst (λ (g : Seen). Along s a d (w .count + cond z 0 1) g (toParam r ∷ w .params)) (sym y) along-more;
           number = t .0 ∙ ap (λ (g : ℕ). g + cond z 0 1) (w .number) ∙ add-assoc m (w .count) (cond z 0 1);
           written =
               t .1 ∙ records-more z refl

@@ -11,12 +11,8 @@ use Rattle.grammar.specs.Kept.{keepAfter, keptLink}
 use Rattle.grammar.specs.Records.{recordsOf}
 use Rattle.grammar.proofs.Machine.{opened}
 use Rattle.kinds.specs.Slots.{over}
-use Rattle.kinds.specs.declared.Place.{Place}
-use Rattle.cursor.specs.declared.Cursor.{Cursor}
-use Rattle.scanner.specs.declared.Scan.{Scan}
-use Rattle.scanner.specs.declared.Scan.the-variants.{Stuck, Past}
-use Rattle.scanner.specs.Stands.{Stands, Ready}
-use Rattle.scanner.specs.Scanned.{TargetScan, no-target, closed}
+use Rattle.scanner.specs.Stands.{Ready}
+use Rattle.scanner.specs.Known.{KnownTarget}
 use Rattle.scanner.specs.Linked.{Chain}
 use Rattle.scanner.proofs.Links.{after-close}
 use Rattle.scanner.proofs.Params.{ready-after}
@@ -24,23 +20,15 @@ use Rattle.reader.specs.Filling.{BeforeParams, ParamsFilled, BeforeLink,
 use Rattle.reader.proofs.Total.{ready-whole, whole-links}
 
 module _ {s L P : List ℕ} {a n m : ℕ} (b : BeforeLink s L P a n m) where
-  -- a target that doesn't fit can't stand there
-  pub target-fits : {A : Type 0} {r : Scan} {p : Place} → TargetScan s a r → r ≡ Stuck p → A
-  target-fits {A} t e = go (subst (TargetScan s a) e t)
-    where
-      go : {p : Place} → TargetScan s a (Stuck p) → A
-      go (no-target f) = absurd (f (b .links) a (b .stands) .malformed (b .all) (b .derived))
+  -- a target is known to stand there
+  pub known-target : KnownTarget s a
+  known-target =
+      record { links = b .links; from = a; known = record { all = b .all; derived = b .derived; stands = b .stands } }
 
-  module _ {r : Scan} {c : Cursor} {j : ℕ} (t : TargetScan s a r) (e : r ≡ Past c) (k : j ≡ c .at .0 + 1) where
-    passed : Target s a (c .at .0) × At s (c .at .0) 62
-    passed = go (subst (TargetScan s a) e t)
-      where
-        go : {c : Cursor} → TargetScan s a (Past c) → Target s a (c .at .0) × At s (c .at .0) 62
-        go (closed t q) = (t, q)
-
-    ready : Ready s (opened (b .links) a (c .at .0)) j
+  module _ {c j : ℕ} (passed : Target s a c × At s c 62) (k : j ≡ c + 1) where
+    ready : Ready s (opened (b .links) a c) j
     ready =
-        subst (Ready s (opened (b .links) a (c .at .0))) (sym (k ∙ add-one (c .at .0)))
+        subst (Ready s (opened (b .links) a c)) (sym (k ∙ add-one c))
         (ready-after (after-close (b .links) (passed .0) (passed .1) (b .stands)))
 
     pub before-params : BeforeParams s P j m
@@ -51,7 +39,7 @@ module _ {s L P : List ℕ} {a n m : ℕ} (b : BeforeLink s L P a n m) where
           room = b .param-room;
           links = b .links;
           from = a;
-          to = c .at .0;
+          to = c;
           ready = ready;
           number = b .param-number;
         }
@@ -60,26 +48,26 @@ module _ {s L P : List ℕ} {a n m : ℕ} (b : BeforeLink s L P a n m) where
     link-room =
         let (ps, Q, w) = ready-whole (b .derived) ready in
         let h = subst (λ (R : List Link). suc (length (b .links)) ≤ length R) (sym w)
-        (whole-links s (opened (b .links) a (c .at .0)) ps Q)
+        (whole-links s (opened (b .links) a c) ps Q)
         in
         omega (arith, h, b .link-room, b .link-number)
 
     pub link-filled : {i x : ℕ} {L′ P′ : List ℕ} → ParamsFilled s j i m x P P′
-        → L′ ≡ over L (4 * n) (a ∷ c .at .0 ∷ m ∷ (x - m) ∷ []) → LinkFilled s a i n m x L L′ P P′
+        → L′ ≡ over L (4 * n) (a ∷ c ∷ m ∷ (x - m) ∷ []) → LinkFilled s a i n m x L L′ P P′
     link-filled {i} {x} f w =
         let kept : x - m ≡ length (keepAfter s [] (reverse (f .params))) = omega (arith, f .next) in
         record {
           count = x - m;
           link =
               record {
-                close = c .at .0;
+                close = c;
                 target = passed .0;
                 closed = passed .1;
                 rest =
                     record {
                       params = f .params;
                       end = f .end;
-                      chain = subst (λ (y : ℕ). Chain s y (f .params) (f .end)) (k ∙ add-one (c .at .0)) (f .chain);
+                      chain = subst (λ (y : ℕ). Chain s y (f .params) (f .end)) (k ∙ add-one c) (f .chain);
                       blanks = f .blanks;
                       ends = f .ends;
                       kept = kept;

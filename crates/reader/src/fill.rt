@@ -1,4 +1,4 @@
-// The second pass: fills in the records of a header that has a reading, in tables that have room for it.
+// The second pass: fills in the records of a header that has a reading, in tables that have room for it. Nothing is judged again.
 ghost use mathlib.Core.Path.{_≡_};
 ghost use mathlib.Core.Bool.{cond, false};
 ghost use mathlib.Core.List.{_++_};
@@ -14,8 +14,8 @@ use kinds::ParamRecord;
 use kinds::Place;
 use kinds::Span;
 use names::Seen;
-use scanner::ParamScan;
-use scanner::Scan;
+use scanner::known::param_at;
+use scanner::known::target_end;
 
 // The cursor behind a link's parameters, and the number of the next parameter.
 pub struct Next {
@@ -48,17 +48,12 @@ fn fill_params(s: &[u8], from: Cursor, params: &mut [usize], m: ParamNumber) -> 
         if !i.sees(s, b';') {
             return Next { at: i, next: n };
         }
-        match scanner::param::past_param(s, i.past_octet(s).past_blanks(s)) {
-            ParamScan::NoParam(_p) => {
-                return Next { at: i, next: n };
-            }
-            ParamScan::Param(r, d) => {
-                let code = names::code(s, r.name.from.0, r.name.to.0);
-                n = keep(params, n, r, seen.has(code));
-                seen = seen.with(code);
-                c = d;
-            }
-        }
+        let p = param_at(s, i.past_octet(s).past_blanks(s));
+        let r = p.record;
+        let code = names::code(s, r.name.from.0, r.name.to.0);
+        n = keep(params, n, r, seen.has(code));
+        seen = seen.with(code);
+        c = p.next;
     }
 }
 
@@ -74,22 +69,18 @@ fn fill_link(
     requires { ⌜ BeforeLink (now s) (now links) (now params) (from .at .0) (n .0) (m .0) ⌝ }
     ensures { λ r. ⌜ LinkFilled (now (s .entry)) (from .at .0) (r .at .at .0) (n .0) (m .0) (r .next .0) (now (links .entry)) (now (links .exit)) (now (params .entry)) (now (params .exit)) ⌝ }
 {
-    match scanner::target::past_target(s, from) {
-        Scan::Stuck(_p) => Next { at: from, next: m },
-        Scan::Past(t) => {
-            let f = fill_params(s, t.past_octet(s), params, m);
-            let r = LinkRecord {
-                target: Span {
-                    from: Place(from.at.0),
-                    to: Place(t.at.0),
-                },
-                first: m,
-                count: f.next.0 - m.0,
-            };
-            kinds::put_link(links, n, r);
-            f
-        }
-    }
+    let t = target_end(s, from);
+    let f = fill_params(s, t.past_octet(s), params, m);
+    let r = LinkRecord {
+        target: Span {
+            from: Place(from.at.0),
+            to: Place(t.at.0),
+        },
+        first: m,
+        count: f.next.0 - m.0,
+    };
+    kinds::put_link(links, n, r);
+    f
 }
 
 // Writes the records of all links. Between two of them stand blanks and commas alone.

@@ -5,3 +5,5 @@ pub mod Insides
 pub mod Params
 pub mod Links
 pub mod Headers
+pub mod Ends
+pub mod Knowing

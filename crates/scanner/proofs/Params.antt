@@ -151,7 +151,7 @@ module _ {s : List ℕ} where
     λ t h. refl,
   )
 
-  equals-reached : {a e k j v : ℕ} (o : Open) → a < e → Passed isToken s a e → Passed isBlank s e k → At s k 61 → j ≡ k + 1
+  pub equals-reached : {a e k j v : ℕ} (o : Open) → a < e → Passed isToken s a e → Passed isBlank s e k → At s k 61 → j ≡ k + 1
       → Passed isBlank s j v → Stands s (semi o) a → Stands s (equals o a e) v
   unfolding isBlank
   equals-reached {a} {e} {k} o h t b q n w p =

@@ -3,3 +3,4 @@ pub mod Stands
 pub mod Parsed
 pub mod Scanned
 pub mod Linked
+pub mod Known

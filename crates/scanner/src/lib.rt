@@ -6,6 +6,7 @@ use kinds::Place;
 use kinds::Span;
 
 pub mod header;
+pub mod known;
 pub mod link;
 pub mod param;
 pub mod quoted;

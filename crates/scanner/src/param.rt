@@ -59,7 +59,7 @@ pub fn past_param(s: &[u8], from: Cursor) -> ParamScan
 }
 
 // From one cursor to another.
-fn span(from: Cursor, to: Cursor) -> Span
+pub fn span(from: Cursor, to: Cursor) -> Span
     ensures { λ r. ⌜ (r .from .0 ≡ from .at .0) × (r .to .0 ≡ to .at .0) ⌝ }
 {
     Span {

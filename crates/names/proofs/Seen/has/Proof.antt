@@ -1,12 +1,16 @@
 -- The expression is that of the definition.
 use mathlib.Core.Path.{refl}
+use borrow.Author.Needs.{needs}
 use Rattle.names.specs.Holds.{hasCode}
 use Rattle.names.proofs.Seen.has.Statement.{statement}
 use Rattle.names.proofs.Seen.has.Tie as tie
+
+shr-result : tie.Need-shr-result
+shr-result c = search needs
 
 returns : tie.Need-returns
 unfolding hasCode
 returns c = refl
 
 pub has-spec : {M : Type 1} → statement M
-has-spec = tie.close (tie.spec returns)
+has-spec = tie.close (tie.spec shr-result returns)

@@ -1,12 +1,24 @@
--- The record is that of the definition.
-use mathlib.Core.Path.{refl}
+-- The mark is a bit below 256, so that the shift cuts nothing off.
+use Prim.Native.Nat.{ℕ, _*_, _%_, _^_, _<_}
+use native.Mathlib.Omega.{arith}
+use mathlib.Core.Path.{_≡_, refl}
+use lib.Dec.{eqb}
+use borrow.Author.Needs.{needs}
+use borrow.Author.Tests.{eqb-true}
+use Rattle.octets.proofs.Octets.{every-at}
 use Rattle.names.specs.Holds.{withCode}
 use Rattle.names.proofs.Seen.with.Statement.{statement}
 use Rattle.names.proofs.Seen.with.Tie as tie
 
+kept-whole : (k : ℕ) → k < 8 → 1 * 2 ^ k % 256 ≡ 2 ^ k
+kept-whole k h = eqb-true (1 * 2 ^ k % 256) (2 ^ k) (every-at (λ j. eqb (1 * 2 ^ j % 256) (2 ^ j)) 8 refl k h)
+
+shl-t4 : tie.Need-shl-t4
+shl-t4 c = search needs
+
 returns : tie.Need-returns
 unfolding withCode
-returns c = refl
+returns c = rw (kept-whole (c .before .args .code % 8) (omega arith))
 
 pub with-spec : {M : Type 1} → statement M
-with-spec = tie.close (tie.spec returns)
+with-spec = tie.close (tie.spec shl-t4 returns)

@@ -1,12 +1,12 @@
 -- `same_folded` meets its contract. The loop's invariant: what is left of the two texts compares as the whole texts do. Assumes nothing.
 use Prim.Native.Nat.{ℕ, suc, _≤_, _<_, _+_, _-_}
-use mathlib.Core.Bool.{true, false, _&&_}
+use mathlib.Core.Bool.{Bool, true, false, not, _&&_}
 use mathlib.Core.List.{List}
 use mathlib.Core.Path.{_≡_, refl, sym, _∙_}
 use native.Mathlib.Numerals.{add-one}
 use native.Mathlib.Omega.{arith}
 use borrow.Author.Needs.{needs}
-use borrow.Author.Tests.{eq-eqb, ne-eqb}
+use borrow.Author.Tests.{not-true, not-false}
 use lib.Dec.{eqb}
 use lib.ListN.{length, getD, drop, drop-of-length-le}
 use lib.Seq.{drop-cons}
@@ -21,17 +21,17 @@ record Passed (x y : List ℕ) (i : ℕ) : Type 0 where
   lengths : length x ≡ length y
   rest : sameFolded x y ≡ sameFolded (drop i x) (drop i y)
 
--- one turn: p and q are the octets at i, folded
-module _ {x y : List ℕ} {i p q : ℕ} (h : Passed x y i) (l : i < length x) (ep : p ≡ fold (getD x i 0)) (eq : q ≡ fold (getD y i 0)) where
-  turn : sameFolded x y ≡ (eqb p q && sameFolded (drop (suc i) x) (drop (suc i) y))
+-- one turn: r tells whether the octets at i are the same, folded
+module _ {x y : List ℕ} {i : ℕ} {r : Bool} (h : Passed x y i) (l : i < length x) (e : r ≡ eqb (fold (getD x i 0)) (fold (getD y i 0))) where
+  turn : sameFolded x y ≡ (r && sameFolded (drop (suc i) x) (drop (suc i) y))
   unfolding sameFolded
-  turn = h .rest ∙ rw (drop-cons x i 0 l, drop-cons y i 0 (omega arith), ep, eq)
+  turn = h .rest ∙ rw (drop-cons x i 0 l, drop-cons y i 0 (omega arith), e)
 
-  differ : (p ≡ q → ⊥) → false ≡ sameFolded x y
-  differ n = rw (turn, ne-eqb p q n)
+  differ : not r ≡ true → false ≡ sameFolded x y
+  differ n = rw (turn, not-true r n)
 
-  agree : p ≡ q → Passed x y (i + 1)
-  agree e = record { inside = omega arith; lengths = h .lengths; rest = rw (add-one, turn, eq-eqb p q e) }
+  agree : not r ≡ false → Passed x y (i + 1)
+  agree n = record { inside = omega arith; lengths = h .lengths; rest = rw (add-one, turn, not-false r n) }
 
 through : {x y : List ℕ} {i : ℕ} → Passed x y i → length x ≤ i → true ≡ sameFolded x y
 unfolding sameFolded
@@ -49,22 +49,18 @@ returns c = sym (same-lengths _ _ (c .if1 .taken))
 loop-holds : tie.Need-loop-holds Inv-loop μ-loop
 loop-holds c = record { inside = omega arith; lengths = c .if1 .left; rest = refl }
 
-shared-slice-read-fold : tie.Need-shared-slice-read-fold Inv-loop μ-loop
-shared-slice-read-fold c = omega arith
+shared-slice-read-same-octet : tie.Need-shared-slice-read-same-octet Inv-loop μ-loop
+shared-slice-read-same-octet c = omega arith
 
-fold-requires : tie.Need-fold-requires Inv-loop μ-loop
-fold-requires c κs = search needs
+shared-slice-read-same-octet-2 : tie.Need-shared-slice-read-same-octet-2 Inv-loop μ-loop
+shared-slice-read-same-octet-2 c = omega arith
 
-shared-slice-read-fold-2 : tie.Need-shared-slice-read-fold-2 Inv-loop μ-loop
-shared-slice-read-fold-2 c = omega arith
-
-fold-requires-2 : tie.Need-fold-requires-2 Inv-loop μ-loop
-fold-requires-2 c κs = search needs
+same-octet-requires : tie.Need-same-octet-requires Inv-loop μ-loop
+same-octet-requires c κs = search needs
 
 returns-2 : tie.Need-returns-2 Inv-loop μ-loop
 returns-2 c =
-    differ (c .before .before .before .before .before .before .loop .inv) (omega arith) (c .before .before .before .fold .ensures)
-    (c .before .fold2 .ensures) (c .if2 .taken)
+    differ (c .before .before .before .before .before .loop .inv) (omega arith) (c .before .same-octet .ensures) (c .if2 .taken)
 
 add-i : tie.Need-add-i Inv-loop μ-loop
 add-i c = omega arith
@@ -74,8 +70,7 @@ loop-less c = omega arith
 
 loop-again : tie.Need-loop-again Inv-loop μ-loop
 loop-again c =
-    agree (c .before .before .before .before .before .before .loop .inv) (omega arith) (c .before .before .before .fold .ensures)
-    (c .before .fold2 .ensures) (c .if2 .left)
+    agree (c .before .before .before .before .before .loop .inv) (omega arith) (c .before .same-octet .ensures) (c .if2 .left)
 
 returns-3 : tie.Need-returns-3 Inv-loop μ-loop
 returns-3 c = through (c .before .loop .inv) (omega arith)
@@ -88,10 +83,9 @@ same-folded-spec =
     μ-loop
     returns
     loop-holds
-    shared-slice-read-fold
-    fold-requires
-    shared-slice-read-fold-2
-    fold-requires-2
+    shared-slice-read-same-octet
+    shared-slice-read-same-octet-2
+    same-octet-requires
     returns-2
     add-i
     loop-less

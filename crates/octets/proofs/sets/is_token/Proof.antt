@@ -1,13 +1,25 @@
--- `is_token` meets its contract: letters and digits, then the marks, listed. Assumes nothing.
-use mathlib.Core.Bool.{_||_}
-use Rattle.octets.specs.Sets.{isToken, isLetter, isDigit}
-use Rattle.octets.proofs.Listed.{tokenMarks, listed}
+-- `is_token` meets its contract: a to z are in the set, and its bits are the octets of the set, each by one test at each octet.
+-- Assumes nothing.
+use native.Mathlib.Omega.{arith}
+use mathlib.Core.Path.{refl, sym, _∙_}
+use borrow.Author.Needs.{needs}
+use Rattle.octets.specs.Bits.{inBits}
+use Rattle.octets.specs.Sets.{between, isToken, isLetter, isDigit}
+use Rattle.octets.proofs.Octets.{alike, within, between-octets}
 use Rattle.octets.proofs.sets.is_token.Statement.{statement}
 use Rattle.octets.proofs.sets.is_token.Tie as tie
 
 returns : tie.Need-returns
 unfolding isToken isLetter isDigit
-returns c = listed (isLetter (c .args .c) || isDigit (c .args .c)) tokenMarks (c .args .c)
+returns c =
+    sym (within (between 97 122) isToken (between-octets 97 122 (omega arith)) refl (c .before .args .c) (c .if1 .taken))
+
+in-bits-requires : tie.Need-in-bits-requires
+in-bits-requires c κs = search needs
+
+returns-2 : tie.Need-returns-2
+unfolding inBits isToken isLetter isDigit
+returns-2 c = c .in-bits .ensures ∙ alike (inBits _ _) isToken refl (c .before .before .args .c) (omega arith)
 
 pub is-token-spec : {M : Type 1} → statement M
-is-token-spec = tie.close (tie.spec returns)
+is-token-spec = tie.close (tie.spec returns in-bits-requires returns-2)

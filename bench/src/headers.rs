@@ -1,0 +1,123 @@
+//! The headers that are measured. Every link has a relation, so that each table can be written too.
+
+/// A well-formed header and what is asked of its table.
+pub struct Sample {
+    pub name: &'static str,
+    pub header: Vec<u8>,
+    /// The relation searched for: the last link alone has it.
+    pub relation: &'static [u8],
+    /// Link and place of the parameter whose value is copied.
+    pub value: (usize, usize),
+}
+
+pub fn samples() -> Vec<Sample> {
+    let sample = |name, header, value| Sample {
+        name,
+        header,
+        relation: b"last",
+        value,
+    };
+    vec![
+        sample(
+            "paginated",
+            paginated("https://api.example.org/catalogue/18/items", 97),
+            (3, 0),
+        ),
+        sample("60 links", sixty_links(), (59, 1)),
+        sample("quoted and escaped", escaped(), (3, 1)),
+        sample("many parameters", many_params(), (1, 3)),
+    ]
+}
+
+/// Four links, as a listing that comes in packs has.
+fn paginated(target: &str, last: u32) -> Vec<u8> {
+    let page = |number: u32, relation: &str| {
+        format!("<{target}?page={number}&per_page=50>; rel=\"{relation}\"")
+    };
+    let pages = [
+        page(last / 2 + 1, "next"),
+        page(last / 2 - 1, "prev"),
+        page(1, "first"),
+        page(last, "last"),
+    ];
+    pages.join(", ").into_bytes()
+}
+
+/// Near 8,192 octets, with 60 links of four parameters each.
+fn sixty_links() -> Vec<u8> {
+    let link = |number| {
+        let relation = if number < 60 { "item" } else { "last item" };
+        let target = format!("https://books.example.org/volume%20{number}?view=full#top");
+        let title = format!("Volume {number}, new edition");
+        format!(
+            "<{target}>; rel=\"{relation}\"; title=\"{title}\"; type=\"text/html\"; hreflang=en"
+        )
+    };
+    let links: Vec<String> = (1..=60).map(link).collect();
+    links.join(", ").into_bytes()
+}
+
+/// Values in quotes, with a backslash every few octets.
+fn escaped() -> Vec<u8> {
+    let link = |number| {
+        let relation = if number < 4 { r"ne\xt" } else { r"la\st" };
+        let title = r#"\"Ropes\" \& \\knots\\, \"a\" to \"z\"; C:\\deck\\log \<1\>, "#.repeat(3);
+        format!("</n{number}>; rel=\"{relation}\"; title=\"{title}\"")
+    };
+    let links: Vec<String> = (1..=4).map(link).collect();
+    links.join(", ").into_bytes()
+}
+
+/// Two links with short parameters: of the six names and of others, first ones and later ones, of every form.
+fn many_params() -> Vec<u8> {
+    let params = ";a=1;rev=x;title=t;c;hreflang=en;type=\"a\";b2=\"\";media=m".repeat(10);
+    format!("<a>;rel=next{params},<b>;rel=last{params}").into_bytes()
+}
+
+/// Links, the last of which is broken off in its value.
+pub fn malformed() -> Vec<u8> {
+    let pages = paginated("https://api.example.org/catalogue/18/items", 97);
+    let mut header = [&pages[..], &pages, &pages].join(&b", "[..]);
+    header.pop();
+    header
+}
+
+/// Paginated headers that differ, so that a processor can't learn how the next one goes.
+pub fn different() -> Vec<Vec<u8>> {
+    const WORDS: [&str; 8] = [
+        "api",
+        "Users",
+        "orders-2",
+        "v3",
+        "feed.atom",
+        "search",
+        "a%20b",
+        "2024",
+    ];
+    let mut state = 1u32;
+    let mut any = |below: u32| {
+        state = state.wrapping_mul(1_664_525).wrapping_add(1_013_904_223);
+        (state >> 16) % below
+    };
+    let mut header = || {
+        let mut target = String::from("https://example.org");
+        for _ in 0..1 + any(4) {
+            target.push('/');
+            target.push_str(WORDS[any(8) as usize]);
+        }
+        paginated(&target, 10 + any(5000))
+    };
+    (0..500).map(|_| header()).collect()
+}
+
+/// A well-formed header of just that many octets, at least 200.
+pub fn of_length(octets: usize) -> Vec<u8> {
+    let link = b"</shelf/7/volume/12?view=full>; rel=\"item\"; title=\"Volume 12\", ";
+    let (open, close) = (b"</pad", b">; rel=last");
+    let ends = open.len() + close.len();
+    let mut header = link.repeat((octets - ends) / link.len());
+    header.extend_from_slice(open);
+    header.resize(octets - close.len(), b'/');
+    header.extend_from_slice(close);
+    header
+}

@@ -1,0 +1,38 @@
+//! The independent reader's entries, over the same tables.
+
+use crate::library::Table;
+
+pub fn search(t: &Table, relation: &[u8]) -> (usize, usize) {
+    oracle::search(
+        &t.text,
+        &t.links,
+        &t.params,
+        t.link_count,
+        t.param_count,
+        relation,
+    )
+}
+
+pub fn value(t: &Table, link: usize, place: usize, out: &mut [u8]) -> (usize, usize) {
+    oracle::value(
+        &t.text,
+        &t.links,
+        &t.params,
+        t.link_count,
+        t.param_count,
+        link,
+        place,
+        out,
+    )
+}
+
+pub fn write(t: &Table, out: &mut [u8]) -> (usize, usize) {
+    oracle::write(
+        &t.text,
+        &t.links,
+        &t.params,
+        t.link_count,
+        t.param_count,
+        out,
+    )
+}
