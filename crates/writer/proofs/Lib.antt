@@ -1,6 +1,7 @@
 -- Laws of writing.
 pub mod Escaping
 pub mod Shaping
+pub mod Bare
 pub mod Forming
 pub mod Relating
 pub mod Lengths

@@ -120,6 +120,9 @@ module _ {s : List ℕ} {p : Param} (g : GoodParam s p) where
           (bare-shape (slice (p .valueFrom) (p .valueTo) s) (omega (arith, n, run-le s (t .rest)))
           (run-text s (g .value-span .inside) (run-more (t .first) (t .rest))) (sym n))
 
+  pub token-bare-value : p .form ≡ 1 → true ≡ isTokenText (valueOf s p)
+  token-bare-value f = token-shape f .bare
+
   -- of any other
   pub meant-shape : {r : Shaped} → IsShape (rest s (p .valueTo) (p .valueFrom)) r → IsShape (valueOf s p) r
   meant-shape h = rw (value-meant g) h

@@ -15,7 +15,7 @@ use crate::octets_out::put;
 use crate::octets_out::put_escaped;
 use crate::octets_out::put_folded;
 use crate::octets_out::put_two;
-use crate::shape::value_shape;
+use crate::shape::is_bare;
 use kinds::ParamNumber;
 use kinds::ParamRecord;
 use values::meaning::copy_meaning;
@@ -37,7 +37,7 @@ fn put_value(text: &[u8], p: ParamRecord, out: &mut [u8], at: usize) -> usize
 {
     let a = p.value.from.0;
     let e = p.value.to.0;
-    if value_shape(text, p).bare {
+    if is_bare(text, p) {
         return copy_meaning(text, a, e, out, at);
     }
     put_in_quotes(text, a, e, out, at)

@@ -6,6 +6,7 @@ ghost use Rattle.kinds.specs.Slots.{toParam};
 ghost use Rattle.outcomes.specs.Number.{limit};
 ghost use Rattle.tables.specs.Good.{GoodParam};
 ghost use Rattle.tables.specs.Meaning.{valueOf};
+ghost use Rattle.tables.specs.Written.{isTokenText};
 ghost use Rattle.values.specs.Rest.{rest};
 ghost use Rattle.writer.specs.Shape.{IsShape, shapeFor, escapedLen};
 use kinds::ParamRecord;
@@ -73,4 +74,34 @@ pub fn value_shape(text: &[u8], p: ParamRecord) -> Shape
         };
     }
     shape_of(text, a, e)
+}
+
+// Whether what the part from a to e means is a token. The first octet that isn't a token's decides.
+fn means_token(s: &[u8], a: usize, e: usize) -> bool
+    requires { ⌜ (a ≤ e) × (e ≤ length (now s)) ⌝ }
+    ensures { λ r. ⌜ r ≡ isTokenText (rest (now (s .entry)) e a) ⌝ }
+{
+    let mut k = a;
+    while k < e {
+        let p = meant_at(s, k, e);
+        if p >= e {
+            return k > a;
+        }
+        if !is_token(s[p]) {
+            return false;
+        }
+        k = p + 1;
+    }
+    k > a
+}
+
+// Whether a parameter's value stands bare.
+pub fn is_bare(text: &[u8], p: ParamRecord) -> bool
+    requires { ⌜ GoodParam (now text) (toParam p) ⌝ }
+    ensures { λ r. ⌜ r ≡ isTokenText (valueOf (now (text .entry)) (toParam p)) ⌝ }
+{
+    if p.form == 1 {
+        return true;
+    }
+    means_token(text, p.value.from.0, p.value.to.0)
 }

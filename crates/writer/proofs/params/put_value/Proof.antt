@@ -5,8 +5,8 @@ use borrow.Author.Needs.{needs}
 use Rattle.writer.proofs.params.put_value.Statement.{statement}
 use Rattle.writer.proofs.params.put_value.Tie as tie
 
-value-shape-requires : tie.Need-value-shape-requires
-value-shape-requires c κs = (c .before .before .pre .0, c .before .before .pre .1)
+is-bare-requires : tie.Need-is-bare-requires
+is-bare-requires c κs = c .before .before .pre .0
 
 copy-meaning-requires : tie.Need-copy-meaning-requires
 copy-meaning-requires c κs = (
@@ -14,7 +14,7 @@ copy-meaning-requires c κs = (
   c .before .before .before .before .before .pre .0 .value-span .inside,
   rw
       (bare-form (c .before .before .before .before .before .pre .0)
-      (sym (c .before .before .value-shape .ensures .bare) ∙ c .before .if1 .taken))
+      (sym (c .before .before .is-bare .ensures) ∙ c .before .if1 .taken))
       at (c .before .before .before .before .before .pre .2),
 )
 
@@ -25,7 +25,7 @@ returns : tie.Need-returns
 returns c =
     rw
     (bare-form (c .before .before .before .before .before .before .before .before .pre .0)
-    (sym (c .before .before .before .before .before .value-shape .ensures .bare) ∙ c .before .before .before .before .if1 .taken))
+    (sym (c .before .before .before .before .before .is-bare .ensures) ∙ c .before .before .before .before .if1 .taken))
     (record { buffer = c .before .before .copy-meaning .ensures .buffer; place = c .before .before .copy-meaning .ensures .place })
 
 put-in-quotes-requires : tie.Need-put-in-quotes-requires
@@ -34,7 +34,7 @@ put-in-quotes-requires c κs = (
   c .before .before .before .before .before .pre .0 .value-span .inside,
   rw
       (quoted-form (c .before .before .before .before .before .pre .0)
-      (sym (c .before .before .value-shape .ensures .bare) ∙ c .before .if1 .left))
+      (sym (c .before .before .is-bare .ensures) ∙ c .before .if1 .left))
       at (c .before .before .before .before .before .pre .2),
 )
 
@@ -45,14 +45,14 @@ returns-2 : tie.Need-returns-2
 returns-2 c =
     rw
     (quoted-form (c .before .before .before .before .before .before .before .before .pre .0)
-    (sym (c .before .before .before .before .before .value-shape .ensures .bare) ∙ c .before .before .before .before .if1 .left))
+    (sym (c .before .before .before .before .before .is-bare .ensures) ∙ c .before .before .before .before .if1 .left))
     (c .before .before .put-in-quotes .ensures)
 
 pub put-value-spec : {M : Type 1} → statement M
 put-value-spec =
     tie.close
     (tie.spec
-    value-shape-requires
+    is-bare-requires
     copy-meaning-requires
     same-length
     returns
