@@ -7,7 +7,7 @@ use crate::generate::header::{derive, SHORT};
 use crate::numbers::Numbers;
 use crate::run::Run;
 
-const CASES: usize = 14000;
+const CASES: usize = 10000;
 
 pub fn compare(run: &mut Run) -> Compared<()> {
     run.begin("damaged");

@@ -9,7 +9,7 @@ use crate::run::Run;
 use crate::shown::{self, Difference};
 use crate::tables::Tables;
 
-const CASES: usize = 1000;
+const CASES: usize = 700;
 
 pub fn compare(run: &mut Run) -> Compared<()> {
     run.begin("joins");

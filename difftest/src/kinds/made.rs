@@ -7,7 +7,7 @@ use crate::run::Run;
 use crate::shown::{self, Difference};
 use crate::tables::Tables;
 
-const CASES: usize = 4000;
+const CASES: usize = 3000;
 
 pub fn compare(run: &mut Run) -> Compared<()> {
     run.begin("made");

@@ -6,7 +6,7 @@ use crate::generate::header::{derive, Derived, Sizes, SHORT};
 use crate::run::Run;
 use crate::shown::{self, Difference};
 
-const CASES: usize = 5000;
+const CASES: usize = 4000;
 
 /// Some hundred octets.
 const MIDDLE: Sizes = Sizes {
