@@ -73,8 +73,9 @@ same-length c = search needs
 
 returns-4 : tie.Need-returns-4
 returns-4 c =
-    let start = c .before .before .before .before .before .before .before .before .before .before .before .before .before .before .before .before .before in
-    let if1′ = c .before .before .before .before .before .before .before .before .before .before .before .if1 in
+    let earlier = c .before .before .before .before .before .before .before .before .before .before .before in
+    let start = earlier .before .before .before .before .before .before in
+    let if1′ = earlier .if1 in
     let link-at′ = c .before .before .before .before .before .before .before .before .before .before .link-at in
     let if2′ = c .before .before .before .before .before .before .before .before .if2 in
     let plus′ = c .before .before .before .before .before .before .before .plus in

@@ -50,7 +50,13 @@ plus-requires : tie.Need-plus-requires Inv-loop2 μ-loop2 Inv-loop μ-loop Inv-s
 plus-requires c κs =
     let start = c .before .before .before .before .before .before .before .before .before .before in
     let if1′ = c .before .before .if1 in
-    omega (arith, params-inside (start .pre .good) (if1′ .left), c .before .link-at .ensures .first, c .before .link-at .ensures .count, start .fits .param-count)
+    omega (
+      arith,
+      params-inside (start .pre .good) (if1′ .left),
+      c .before .link-at .ensures .first,
+      c .before .link-at .ensures .count,
+      start .fits .param-count,
+    )
 
 loop-holds : tie.Need-loop-holds Inv-loop2 μ-loop2 Inv-loop μ-loop Inv-search μ-search
 loop-holds c =
@@ -85,7 +91,8 @@ loop2-holds c =
     first-run (loop′ .inv) (if2′ .taken) (param-at′ .ensures) (sym (is-rel′ .ensures) ∙ c .before .if3 .taken) (c .next-run .ensures)
 
 match-run-requires : tie.Need-match-run-requires Inv-loop2 μ-loop2 Inv-loop μ-loop Inv-search μ-search
-match-run-requires c κs = (c .loop2-test .taken, c .before .loop2 .inv .text, c .before .loop2 .inv .run-begins (c .loop2-test .taken))
+match-run-requires c κs =
+    (c .loop2-test .taken, c .before .loop2 .inv .text, c .before .loop2 .inv .run-begins (c .loop2-test .taken))
 
 next-run-requires-2 : tie.Need-next-run-requires-2 Inv-loop2 μ-loop2 Inv-loop μ-loop Inv-search μ-search
 next-run-requires-2 c κs =
@@ -116,8 +123,9 @@ loop-again c =
 
 next-requires : tie.Need-next-requires Inv-loop2 μ-loop2 Inv-loop μ-loop Inv-search μ-search
 next-requires c κs =
-    let start = c .before .before .before .before .before .before .before .before .before .before .before .before .before .before .before .before .before .before in
-    let loop′ = c .before .before .before .before .before .before .loop in
+    let earlier = c .before .before .before .before .before .before in
+    let start = earlier .before .before .before .before .before .before .before .before .before .before .before .before in
+    let loop′ = earlier .loop in
     let if2′ = c .before .before .before .if2 in
     omega (arith, if2′ .taken, loop′ .inv .walk .slots, start .good .1 .1 .0 .0)
 
@@ -136,7 +144,9 @@ loop-again-2 c =
 
 next-requires-2 : tie.Need-next-requires-2 Inv-loop2 μ-loop2 Inv-loop μ-loop Inv-search μ-search
 next-requires-2 c κs =
-    let start = c .before .before .before .before .before .before .before .before .before .before .before .before .before .before .before in
+    let start =
+    c .before .before .before .before .before .before .before .before .before .before .before .before .before .before .before
+    in
     let if1′ = c .before .before .before .before .before .before .before .if1 in
     omega (arith, if1′ .left, start .fits .link-count)
 
@@ -159,8 +169,9 @@ returns c =
 
 returns-2 : tie.Need-returns-2 Inv-loop2 μ-loop2 Inv-loop μ-loop Inv-search μ-search
 returns-2 c =
-    let search′ = c .before .before .before .before .before .before .before .before .before .before .before .before .before .before .before .before .before .search in
-    let loop′ = c .before .before .before .before .before .before .before .before .before .before .before .loop in
+    let earlier = c .before .before .before .before .before .before .before .before .before .before .before in
+    let search′ = earlier .before .before .before .before .before .before .search in
+    let loop′ = earlier .loop in
     let loop2′ = c .before .before .before .loop2 in
     found (loop′ .inv .usable) (loop′ .inv .is-link) (matched (loop2′ .inv) (c .before .match-run .ensures) (c .if4 .taken))
     (search′ .inv)

@@ -47,13 +47,17 @@ plus-requires c κs = search needs
 
 put-params-requires : tie.Need-put-params-requires
 put-params-requires c κs =
-    let start = c .before .before .before .before .before .before .before .before .before .before .before .before .before .before .before .before .before .before in
-    let put′ = c .before .before .before .before .before .before .before .before .before .before .before .before .before .put in
+    let earlier = c .before .before .before .before .before .before .before .before .before .before .before .before .before in
+    let start = earlier .before .before .before .before .before in
+    let put′ = earlier .put in
     let put-part′ = c .before .before .before .before .before .before .before .before .before .put-part in
     let put2′ = c .before .before .before .before .before .put2 in
     let l = start .args .l in
     let target = slice (l .target .from .0) (l .target .to .0) (start .args .text .now) in
-    let w = begin (start .args .out .now) (start .args .at) (linkForm (start .args .text .now) (linkOf (start .args .params .now) l)) (start .pre .3) in
+    let w =
+    begin (start .args .out .now) (start .args .at) (linkForm (start .args .text .now) (linkOf (start .args .params .now) l))
+    (start .pre .3)
+    in
     let w1 = several w (put′ .ensures) in
     let w2 = several {bs = target} w1 (put-part′ .ensures) in
     let w3 = several w2 (put2′ .ensures) in
@@ -65,15 +69,19 @@ same-length c = search needs
 
 returns : tie.Need-returns
 returns c =
-    let start = c .before .before .before .before .before .before .before .before .before .before .before .before .before .before .before .before .before .before .before .before .before in
-    let put′ = c .before .before .before .before .before .before .before .before .before .before .before .before .before .before .before .before .put in
-    let put-part′ = c .before .before .before .before .before .before .before .before .before .before .before .before .put-part in
+    let earlier = c .before .before .before .before .before .before .before .before .before .before .before .before in
+    let start = earlier .before .before .before .before .before .before .before .before .before in
+    let put′ = earlier .before .before .before .before .put in
+    let put-part′ = earlier .put-part in
     let put2′ = c .before .before .before .before .before .before .before .before .put2 in
     let plus′ = c .before .before .before .before .plus in
     let put-params′ = c .before .before .put-params in
     let l = start .args .l in
     let target = slice (l .target .from .0) (l .target .to .0) (start .args .text .now) in
-    let w = begin (start .args .out .now) (start .args .at) (linkForm (start .args .text .now) (linkOf (start .args .params .now) l)) (start .pre .3) in
+    let w =
+    begin (start .args .out .now) (start .args .at) (linkForm (start .args .text .now) (linkOf (start .args .params .now) l))
+    (start .pre .3)
+    in
     let w1 = several w (put′ .ensures) in
     let w2 = several {bs = target} w1 (put-part′ .ensures) in
     let w3 = several w2 (put2′ .ensures) in

@@ -31,7 +31,10 @@ first-requires c κs = search needs
 loop-holds : tie.Need-loop-holds Inv-loop μ-loop
 loop-holds c =
     let start = c .before .before .before .before .before in
-    let t = tableOf (start .args .text .now) (start .args .links .now) (start .args .params .now) (start .args .link-count) (start .args .param-count) in
+    let t =
+    tableOf (start .args .text .now) (start .args .links .now) (start .args .params .now) (start .args .link-count)
+    (start .args .param-count)
+    in
     rw (c .first .ensures)
     (record {
       inside = omega arith;
@@ -49,21 +52,39 @@ put-parting-requires c κs =
     let loop′ = c .before .before .before .before .before .loop in
     let if1′ = c .before .before .before .if1 in
     let link-at′ = c .before .before .link-at in
-    let w = onto (links-next (start .args .text .now) (start .args .links .now) (start .args .params .now) (start .args .link-count) (if1′ .taken) (link-at′ .ensures)) (loop′ .inv .put) in
+    let w =
+    onto
+    (links-next (start .args .text .now) (start .args .links .now) (start .args .params .now) (start .args .link-count) (if1′ .taken)
+    (link-at′ .ensures))
+    (loop′ .inv .put)
+    in
     let form = linkForm (start .args .text .now) (linkOf (start .args .params .now) (link-at′ .result)) in
-    let left = linksLeft (start .args .text .now) (start .args .links .now) (start .args .params .now) (start .args .link-count) (suc (loop′ .i .0)) in
+    let left =
+    linksLeft (start .args .text .now) (start .args .links .now) (start .args .params .now) (start .args .link-count)
+    (suc (loop′ .i .0))
+    in
     room (parting (eqb (loop′ .i .0) 0)) (form ++ left) w
 
 put-link-requires : tie.Need-put-link-requires Inv-loop μ-loop
 put-link-requires c κs =
-    let start = c .before .before .before .before .before .before .before .before .before .before .before .before .before .before .before in
+    let start =
+    c .before .before .before .before .before .before .before .before .before .before .before .before .before .before .before
+    in
     let loop′ = c .before .before .before .before .before .before .before .before .before .loop in
     let if1′ = c .before .before .before .before .before .before .before .if1 in
     let link-at′ = c .before .before .before .before .before .before .link-at in
     let put-parting′ = c .before .before .before .put-parting in
-    let w = onto (links-next (start .args .text .now) (start .args .links .now) (start .args .params .now) (start .args .link-count) (if1′ .taken) (link-at′ .ensures)) (loop′ .inv .put) in
+    let w =
+    onto
+    (links-next (start .args .text .now) (start .args .links .now) (start .args .params .now) (start .args .link-count) (if1′ .taken)
+    (link-at′ .ensures))
+    (loop′ .inv .put)
+    in
     let form = linkForm (start .args .text .now) (linkOf (start .args .params .now) (link-at′ .result)) in
-    let left = linksLeft (start .args .text .now) (start .args .links .now) (start .args .params .now) (start .args .link-count) (suc (loop′ .i .0)) in
+    let left =
+    linksLeft (start .args .text .now) (start .args .links .now) (start .args .params .now) (start .args .link-count)
+    (suc (loop′ .i .0))
+    in
     let w1 = several {left = form ++ left} w (put-parting′ .ensures) in (
       target-span (start .pre .0 .good) (if1′ .taken) (link-at′ .ensures),
       good-run (start .pre .0 .good) (if1′ .taken) (link-at′ .ensures),
@@ -73,8 +94,9 @@ put-link-requires c κs =
 
 next-requires : tie.Need-next-requires Inv-loop μ-loop
 next-requires c κs =
-    let start = c .before .before .before .before .before .before .before .before .before .before .before .before .before .before .before .before .before .before in
-    let if1′ = c .before .before .before .before .before .before .before .before .before .before .if1 in
+    let earlier = c .before .before .before .before .before .before .before .before .before .before in
+    let start = earlier .before .before .before .before .before .before .before .before in
+    let if1′ = earlier .if1 in
     omega (arith, if1′ .taken, start .fits .link-count)
 
 loop-less : tie.Need-loop-less Inv-loop μ-loop
@@ -84,15 +106,24 @@ loop-less c =
 
 loop-again : tie.Need-loop-again Inv-loop μ-loop
 loop-again c =
-    let start = c .before .before .before .before .before .before .before .before .before .before .before .before .before .before .before .before .before .before .before in
-    let loop′ = c .before .before .before .before .before .before .before .before .before .before .before .before .before .loop in
+    let earlier = c .before .before .before .before .before .before .before .before .before .before .before .before .before in
+    let start = earlier .before .before .before .before .before .before in
+    let loop′ = earlier .loop in
     let if1′ = c .before .before .before .before .before .before .before .before .before .before .before .if1 in
     let link-at′ = c .before .before .before .before .before .before .before .before .before .before .link-at in
     let put-parting′ = c .before .before .before .before .before .before .before .put-parting in
     let put-link′ = c .before .before .before .put-link in
-    let w = onto (links-next (start .args .text .now) (start .args .links .now) (start .args .params .now) (start .args .link-count) (if1′ .taken) (link-at′ .ensures)) (loop′ .inv .put) in
+    let w =
+    onto
+    (links-next (start .args .text .now) (start .args .links .now) (start .args .params .now) (start .args .link-count) (if1′ .taken)
+    (link-at′ .ensures))
+    (loop′ .inv .put)
+    in
     let form = linkForm (start .args .text .now) (linkOf (start .args .params .now) (link-at′ .result)) in
-    let left = linksLeft (start .args .text .now) (start .args .links .now) (start .args .params .now) (start .args .link-count) (suc (loop′ .i .0)) in
+    let left =
+    linksLeft (start .args .text .now) (start .args .links .now) (start .args .params .now) (start .args .link-count)
+    (suc (loop′ .i .0))
+    in
     let w1 = several {left = form ++ left} w (put-parting′ .ensures) in
     let w2 = several {left = left} w1 (put-link′ .ensures) in
     rw (c .next .ensures) (next (if1′ .taken) w2)
@@ -106,7 +137,8 @@ returns : tie.Need-returns Inv-loop μ-loop
 returns c =
     let start = c .before .before .before .before .before .before .before .before in
     let loop′ = c .before .before .loop in
-    ended (loop′ .inv) (links-end (start .args .text .now) (start .args .links .now) (start .args .params .now) (start .args .link-count) (c .if1 .left))
+    ended (loop′ .inv)
+    (links-end (start .args .text .now) (start .args .links .now) (start .args .params .now) (start .args .link-count) (c .if1 .left))
 
 pub put-links-spec : {M : Type 1} → statement M
 put-links-spec =

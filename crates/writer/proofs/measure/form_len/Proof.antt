@@ -11,7 +11,8 @@ use Rattle.writer.proofs.measure.form_len.Statement.{statement}
 use Rattle.writer.proofs.measure.form_len.Tie as tie
 
 abbrev Inv-loop : tie.InvT-loop
-Inv-loop text links params link-count param-count n₀ i₀ n i = FormMeasuring (tableOf text links params link-count param-count) n (i .0)
+Inv-loop text links params link-count param-count n₀ i₀ n i =
+    FormMeasuring (tableOf text links params link-count param-count) n (i .0)
 
 abbrev μ-loop : tie.MeasureT-loop
 μ-loop text links params link-count param-count n₀ i₀ n i = link-count - i .0
@@ -50,7 +51,13 @@ plus-requires c κs =
     let start = c .before .before .before .before .before .before .before .before .before .before .before .before .before in
     let if1′ = c .before .before .before .before .before .before .if1 in
     let link-at′ = c .before .before .before .before .link-at in
-    omega (arith, params-inside (start .pre .good) (if1′ .taken), link-at′ .ensures .first, link-at′ .ensures .count, start .fits .param-count)
+    omega (
+      arith,
+      params-inside (start .pre .good) (if1′ .taken),
+      link-at′ .ensures .first,
+      link-at′ .ensures .count,
+      start .fits .param-count,
+    )
 
 add-params-len : tie.Need-add-params-len Inv-loop μ-loop
 add-params-len c =
@@ -60,7 +67,12 @@ add-params-len c =
     let if2′ = c .before .before .before .before .before .before .if2 in
     let link-at′ = c .before .before .before .before .before .link-at in
     let parting-len′ = c .before .before .before .parting-len in
-    omega (arith, link-added (loop′ .inv) (start .pre) (if1′ .taken) (link-at′ .ensures) (parting-len′ .ensures), leb-true (loop′ .n) 8192 (if2′ .taken))
+    omega (
+      arith,
+      link-added (loop′ .inv) (start .pre) (if1′ .taken) (link-at′ .ensures) (parting-len′ .ensures),
+      leb-true (loop′ .n) 8192
+          (if2′ .taken),
+    )
 
 add-params-len-2 : tie.Need-add-params-len-2 Inv-loop μ-loop
 add-params-len-2 c =
@@ -70,7 +82,12 @@ add-params-len-2 c =
     let if2′ = c .before .before .before .before .before .before .if2 in
     let link-at′ = c .before .before .before .before .before .link-at in
     let parting-len′ = c .before .before .before .parting-len in
-    omega (arith, link-added (loop′ .inv) (start .pre) (if1′ .taken) (link-at′ .ensures) (parting-len′ .ensures), leb-true (loop′ .n) 8192 (if2′ .taken))
+    omega (
+      arith,
+      link-added (loop′ .inv) (start .pre) (if1′ .taken) (link-at′ .ensures) (parting-len′ .ensures),
+      leb-true (loop′ .n) 8192
+          (if2′ .taken),
+    )
 
 params-len-requires : tie.Need-params-len-requires Inv-loop μ-loop
 params-len-requires c κs =
@@ -81,7 +98,9 @@ params-len-requires c κs =
 
 next-requires : tie.Need-next-requires Inv-loop μ-loop
 next-requires c κs =
-    let start = c .before .before .before .before .before .before .before .before .before .before .before .before .before .before .before in
+    let start =
+    c .before .before .before .before .before .before .before .before .before .before .before .before .before .before .before
+    in
     let if1′ = c .before .before .before .before .before .before .before .before .if1 in
     omega (arith, if1′ .taken, start .fits .link-count)
 
@@ -92,8 +111,9 @@ loop-less c =
 
 loop-again : tie.Need-loop-again Inv-loop μ-loop
 loop-again c =
-    let start = c .before .before .before .before .before .before .before .before .before .before .before .before .before .before .before .before in
-    let loop′ = c .before .before .before .before .before .before .before .before .before .before .before .loop in
+    let earlier = c .before .before .before .before .before .before .before .before .before .before .before in
+    let start = earlier .before .before .before .before .before in
+    let loop′ = earlier .loop in
     let if1′ = c .before .before .before .before .before .before .before .before .before .if1 in
     let if2′ = c .before .before .before .before .before .before .before .before .if2 in
     let link-at′ = c .before .before .before .before .before .before .before .link-at in

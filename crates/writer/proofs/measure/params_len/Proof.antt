@@ -59,7 +59,12 @@ add-n-3 c =
     let if1′ = c .before .before .before .before .before .if1 in
     let if2′ = c .before .before .before .before .if2 in
     let param-at′ = c .before .before .before .param-at in
-    omega (arith, added (loop′ .inv) (if1′ .taken) (param-at′ .ensures) (c .before .value-shape .ensures), leb-true (loop′ .n) 8192 (if2′ .taken))
+    omega (
+      arith,
+      added (loop′ .inv) (if1′ .taken) (param-at′ .ensures) (c .before .value-shape .ensures),
+      leb-true (loop′ .n) 8192
+          (if2′ .taken),
+    )
 
 next-requires : tie.Need-next-requires Inv-loop μ-loop
 next-requires c κs =

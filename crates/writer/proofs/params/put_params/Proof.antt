@@ -19,7 +19,8 @@ loop-holds : tie.Need-loop-holds Inv-loop μ-loop
 loop-holds c =
     let entry = c .before .before .before in (
       omega arith,
-      start (paramsLeft (entry .args .text .now) (entry .args .params .now) (entry .args .end .0)) (entry .args .end .0) (entry .args .out .now) (entry .args .at)
+      start (paramsLeft (entry .args .text .now) (entry .args .params .now) (entry .args .end .0)) (entry .args .end .0)
+          (entry .args .out .now) (entry .args .at)
           (entry .args .first .0) (entry .pre .0 .ordered) (entry .pre .2),
     )
 

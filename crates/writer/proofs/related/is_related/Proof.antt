@@ -23,7 +23,13 @@ link-at-requires c κs = link-slots (c .before .before .before .pre .0 .good) (c
 plus-requires : tie.Need-plus-requires Inv-loop μ-loop
 plus-requires c κs =
     let start = c .before .before .before .before .before in
-    omega (arith, params-inside (start .pre .0 .good) (start .pre .1), c .before .link-at .ensures .first, c .before .link-at .ensures .count, start .fits .param-count)
+    omega (
+      arith,
+      params-inside (start .pre .0 .good) (start .pre .1),
+      c .before .link-at .ensures .first,
+      c .before .link-at .ensures .count,
+      start .fits .param-count,
+    )
 
 loop-holds : tie.Need-loop-holds Inv-loop μ-loop
 loop-holds c =
