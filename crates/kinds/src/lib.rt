@@ -1,7 +1,7 @@
-// Octet places, link numbers and parameter numbers: three kinds that can't be exchanged by mistake, and the one place where they
-// are converted to and from the slots of a table.
+// Octet places, link numbers and parameter numbers: three kinds that can't be exchanged by mistake, how the numbers move on, and
+// the one place where all three are converted to and from the slots of a table.
 ghost use mathlib.Core.Path.{_≡_};
-ghost use Prim.Native.Nat.{_+_, _*_, _≤_};
+ghost use Prim.Native.Nat.{_+_, _*_, _^_, _≤_, _<_};
 ghost use lib.ListN.{length};
 ghost use Rattle.tables.specs.Table.{paramAt};
 ghost use Rattle.kinds.specs.Slots.{IsLink, toParam, over, linkNumbers, paramNumbers};
@@ -14,6 +14,41 @@ pub struct LinkNumber(pub usize);
 
 // A parameter's number in its table, counted from 0 through the whole table.
 pub struct ParamNumber(pub usize);
+
+impl LinkNumber {
+    // The number of a table's first link.
+    pub fn first() -> LinkNumber
+        ensures { λ r. ⌜ r .0 ≡ 0 ⌝ }
+    {
+        LinkNumber(0)
+    }
+
+    // The number of the link behind this one.
+    pub fn next(self) -> LinkNumber
+        requires { ⌜ self .0 + 1 < 2 ^ 64 ⌝ }
+        ensures { λ r. ⌜ r .0 ≡ self .0 + 1 ⌝ }
+    {
+        LinkNumber(self.0 + 1)
+    }
+}
+
+impl ParamNumber {
+    // The number of the parameter behind this one.
+    pub fn next(self) -> ParamNumber
+        requires { ⌜ self .0 + 1 < 2 ^ 64 ⌝ }
+        ensures { λ r. ⌜ r .0 ≡ self .0 + 1 ⌝ }
+    {
+        ParamNumber(self.0 + 1)
+    }
+
+    // The number of the parameter n places further on.
+    pub fn plus(self, n: usize) -> ParamNumber
+        requires { ⌜ self .0 + n < 2 ^ 64 ⌝ }
+        ensures { λ r. ⌜ r .0 ≡ self .0 + n ⌝ }
+    {
+        ParamNumber(self.0 + n)
+    }
+}
 
 // A part of the text; its end is one past its last octet.
 pub struct Span {

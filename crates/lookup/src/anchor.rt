@@ -8,7 +8,6 @@ use crate::named::is_anchor;
 use crate::usable::TableState;
 use crate::usable::state_of;
 use kinds::LinkNumber;
-use kinds::ParamNumber;
 
 // Where the context of a link lies that is there.
 fn anchor_of(
@@ -23,15 +22,15 @@ fn anchor_of(
     ensures { λ r. ⌜ IsContext (tableOf (now (text .entry)) (now (links .entry)) (now (params .entry)) «link_count» «param_count») (link .0) r ⌝ }
 {
     let l = kinds::link_at(links, link);
-    let mut p = l.first.0;
-    let end = p + l.count;
-    while p < end {
-        let param = kinds::param_at(params, ParamNumber(p));
+    let mut p = l.first;
+    let end = p.plus(l.count);
+    while p.0 < end.0 {
+        let param = kinds::param_at(params, p);
         if is_anchor(text, param) {
             let span = param.value;
             return ContextAnswer::Anchored(span);
         }
-        p += 1;
+        p = p.next();
     }
     ContextAnswer::Base
 }

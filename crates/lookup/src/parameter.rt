@@ -5,7 +5,6 @@ ghost use Rattle.tables.specs.Table.{tableOf};
 ghost use Rattle.lookup.specs.Answers.{valueOut};
 use crate::ValueAnswer;
 use kinds::LinkNumber;
-use kinds::ParamNumber;
 use values::meaning::copy_meaning;
 use values::meaning::meaning_len;
 
@@ -30,7 +29,7 @@ pub fn copy_at(
     if place >= l.count {
         return ValueAnswer::NotFound;
     }
-    let p = kinds::param_at(params, ParamNumber(l.first.0 + place));
+    let p = kinds::param_at(params, l.first.plus(place));
     let n = meaning_len(text, p.value.from.0, p.value.to.0);
     if n > out.len() {
         return ValueAnswer::NoOutputRoom;

@@ -6,7 +6,6 @@ ghost use Rattle.lookup.specs.Answers.{searchOut};
 use crate::SearchAnswer;
 use crate::named::is_rel;
 use kinds::LinkNumber;
-use kinds::ParamNumber;
 use values::runs::match_run;
 use values::runs::next_run;
 
@@ -23,31 +22,31 @@ pub fn first_with(
     requires { ⌜ Usable (tableOf (now text) (now links) (now params) «link_count» «param_count») ⌝ }
     ensures { λ r. ⌜ Search (tableOf (now (text .entry)) (now (links .entry)) (now (params .entry)) «link_count» «param_count») (now (relation .entry)) (searchOut r) ⌝ }
 {
-    let mut l = 0;
+    let mut l = LinkNumber::first();
     'search: loop {
-        if l >= link_count {
+        if l.0 >= link_count {
             break 'search SearchAnswer::NotFound;
         }
-        let link = kinds::link_at(links, LinkNumber(l));
-        let mut p = link.first.0;
-        let end = p + link.count;
-        while p < end {
-            let param = kinds::param_at(params, ParamNumber(p));
+        let link = kinds::link_at(links, l);
+        let mut p = link.first;
+        let end = p.plus(link.count);
+        while p.0 < end.0 {
+            let param = kinds::param_at(params, p);
             if is_rel(text, param) {
                 let e = param.value.to.0;
                 let mut k = next_run(text, param.value.from.0, e);
                 while k < e {
                     let m = match_run(text, k, e, relation);
                     if m.same {
-                        break 'search SearchAnswer::Found(LinkNumber(l));
+                        break 'search SearchAnswer::Found(l);
                     }
                     k = next_run(text, m.next, e);
                 }
                 p = end;
             } else {
-                p += 1;
+                p = p.next();
             }
         }
-        l += 1;
+        l = l.next();
     }
 }

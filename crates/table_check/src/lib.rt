@@ -44,15 +44,15 @@ pub fn is_good(
         return false;
     }
     let mut next = 0;
-    let mut i = 0;
-    while i < link_count {
-        let l = link_at(links, LinkNumber(i));
+    let mut i = LinkNumber::first();
+    while i.0 < link_count {
+        let l = link_at(links, i);
         let count = l.count;
         if l.first.0 != next || count > param_count - next || !is_good_link(text, params, l) {
             return false;
         }
         next += count;
-        i += 1;
+        i = i.next();
     }
     next == param_count
 }

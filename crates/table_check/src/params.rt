@@ -50,7 +50,7 @@ pub fn are_good_params(s: &[u8], slots: &[usize], first: ParamNumber, count: usi
     let mut seen = Seen::none();
     let mut k = 0;
     while k < count {
-        let p = param_at(slots, ParamNumber(first.0 + k));
+        let p = param_at(slots, first.plus(k));
         if !is_good_param(s, p) {
             return false;
         }

@@ -53,7 +53,7 @@ fn context<'a>(
     m: usize,
 ) {
     io::write_all(1, b"context");
-    let first = LinkNumber(0);
+    let first = LinkNumber::first();
     let answer = lookup::context_number(text, base, links, params, n, m, first);
     put_octets(
         context_number(answer),
@@ -64,7 +64,7 @@ fn context<'a>(
 // The value of the first link's first parameter.
 fn value(text: &[u8], links: &[usize], params: &[usize], n: usize, m: usize, out: &mut [u8]) {
     io::write_all(1, b"value");
-    match lookup::value(text, links, params, n, m, LinkNumber(0), 0, out) {
+    match lookup::value(text, links, params, n, m, LinkNumber::first(), 0, out) {
         ValueAnswer::Copied(k) => put_octets(0, &out[..k]),
         ValueAnswer::TooLong => put_octets(1, b""),
         ValueAnswer::BadTable => put_octets(5, b""),

@@ -16,7 +16,6 @@ use crate::octets_out::put_two;
 use crate::params::put_params;
 use kinds::LinkNumber;
 use kinds::LinkRecord;
-use kinds::ParamNumber;
 
 // What parts a link from the one before it.
 fn put_parting(out: &mut [u8], at: usize, first: bool) -> usize
@@ -38,7 +37,7 @@ fn put_link(text: &[u8], params: &[usize], l: LinkRecord, out: &mut [u8], at: us
     let close = put_part(text, l.target.from.0, l.target.to.0, out, target);
     let behind = put(out, close, b'>');
     let first = l.first;
-    let end = ParamNumber(first.0 + l.count);
+    let end = first.plus(l.count);
     put_params(text, params, first, end, out, behind)
 }
 
@@ -55,12 +54,12 @@ pub fn put_links(
     ensures { λ r. ⌜ Put (now (out .entry)) (now (out .exit)) 0 r (writtenForm (tableOf (now (text .entry)) (now (links .entry)) (now (params .entry)) «link_count» «param_count»)) ⌝ }
 {
     let mut at = 0;
-    let mut i = 0;
-    while i < link_count {
-        let l = kinds::link_at(links, LinkNumber(i));
-        let behind = put_parting(out, at, i == 0);
+    let mut i = LinkNumber::first();
+    while i.0 < link_count {
+        let l = kinds::link_at(links, i);
+        let behind = put_parting(out, at, i.0 == 0);
         at = put_link(text, params, l, out, behind);
-        i += 1;
+        i = i.next();
     }
     at
 }

@@ -25,12 +25,12 @@ fn params_len(
     ensures { λ r. ⌜ Measured (before + length (paramsForm (now (text .entry)) (paramsFrom (now (params .entry)) (first .0) (end .0 - first .0)))) r ⌝ }
 {
     let mut n = before;
-    let mut p = first.0;
-    while p < end.0 && n <= 8192 {
-        let param = kinds::param_at(params, ParamNumber(p));
+    let mut p = first;
+    while p.0 < end.0 && n <= 8192 {
+        let param = kinds::param_at(params, p);
         let name = param.name.to.0 - param.name.from.0;
         n += name + value_shape(text, param).len + 3;
-        p += 1;
+        p = p.next();
     }
     n
 }
@@ -54,15 +54,15 @@ pub fn form_len(
     ensures { λ r. ⌜ Measured (length (writtenForm (tableOf (now (text .entry)) (now (links .entry)) (now (params .entry)) «link_count» «param_count»))) r ⌝ }
 {
     let mut n = 0;
-    let mut i = 0;
-    while i < link_count && n <= 8192 {
-        let l = kinds::link_at(links, LinkNumber(i));
-        let parting = parting_len(i == 0);
+    let mut i = LinkNumber::first();
+    while i.0 < link_count && n <= 8192 {
+        let l = kinds::link_at(links, i);
+        let parting = parting_len(i.0 == 0);
         let target = l.target.to.0 - l.target.from.0 + 2;
         let first = l.first;
-        let end = ParamNumber(first.0 + l.count);
+        let end = first.plus(l.count);
         n = params_len(text, params, first, end, n + parting + target);
-        i += 1;
+        i = i.next();
     }
     n
 }

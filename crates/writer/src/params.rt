@@ -67,11 +67,11 @@ pub fn put_params(
     ensures { λ r. ⌜ Put (now (out .entry)) (now (out .exit)) at r (paramsForm (now (text .entry)) (paramsFrom (now (params .entry)) (first .0) (end .0 - first .0))) ⌝ }
 {
     let mut to = at;
-    let mut p = first.0;
-    while p < end.0 {
-        let param = kinds::param_at(params, ParamNumber(p));
+    let mut p = first;
+    while p.0 < end.0 {
+        let param = kinds::param_at(params, p);
         to = put_param(text, param, out, to);
-        p += 1;
+        p = p.next();
     }
     to
 }

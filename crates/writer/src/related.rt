@@ -8,7 +8,6 @@ ghost use Rattle.tables.specs.Table.{tableOf};
 ghost use Rattle.values.specs.Runs.{isNone};
 ghost use Rattle.writer.specs.Tells.{Tells};
 use kinds::LinkNumber;
-use kinds::ParamNumber;
 use lookup::named::is_rel;
 use values::runs::has_runs;
 
@@ -25,14 +24,14 @@ fn is_related(
     ensures { λ r. ⌜ r ≡ not (isNone (relationsAt (tableOf (now (text .entry)) (now (links .entry)) (now (params .entry)) «link_count» «param_count») (link .0))) ⌝ }
 {
     let l = kinds::link_at(links, link);
-    let mut p = l.first.0;
-    let end = p + l.count;
-    while p < end {
-        let param = kinds::param_at(params, ParamNumber(p));
+    let mut p = l.first;
+    let end = p.plus(l.count);
+    while p.0 < end.0 {
+        let param = kinds::param_at(params, p);
         if is_rel(text, param) {
             return has_runs(text, param.value.from.0, param.value.to.0);
         }
-        p += 1;
+        p = p.next();
     }
     false
 }
@@ -48,12 +47,12 @@ pub fn all_related(
     requires { ⌜ Usable (tableOf (now text) (now links) (now params) «link_count» «param_count») ⌝ }
     ensures { λ r. ⌜ Tells (tableOf (now (text .entry)) (now (links .entry)) (now (params .entry)) «link_count» «param_count») r ⌝ }
 {
-    let mut i = 0;
-    while i < link_count {
-        if !is_related(text, links, params, link_count, param_count, LinkNumber(i)) {
+    let mut i = LinkNumber::first();
+    while i.0 < link_count {
+        if !is_related(text, links, params, link_count, param_count, i) {
             return false;
         }
-        i += 1;
+        i = i.next();
     }
     true
 }

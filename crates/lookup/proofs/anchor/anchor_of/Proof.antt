@@ -12,16 +12,16 @@ use Rattle.lookup.proofs.anchor.anchor_of.Tie as tie
 
 abbrev Inv-loop : tie.InvT-loop
 Inv-loop text links params link-count param-count p₀ end p =
-    Walking (λ o. o) text (octets "anchor") params (paramsFrom params p₀ (end - p₀)) end p
+    Walking (λ o. o) text (octets "anchor") params (paramsFrom params (p₀ .0) (end .0 - p₀ .0)) (end .0) (p .0)
 
 abbrev μ-loop : tie.MeasureT-loop
-μ-loop text links params link-count param-count p₀ end p = end - p
+μ-loop text links params link-count param-count p₀ end p = end .0 - p .0
 
 link-at-requires : tie.Need-link-at-requires Inv-loop μ-loop
 link-at-requires c κs = link-slots (c .before .before .before .pre .0 .good) (c .before .before .before .pre .1)
 
-add-end : tie.Need-add-end Inv-loop μ-loop
-add-end c =
+plus-requires : tie.Need-plus-requires Inv-loop μ-loop
+plus-requires c κs =
     let start = c .before .before .before .before .before in
     omega (
       arith,
@@ -33,44 +33,61 @@ add-end c =
 
 loop-holds : tie.Need-loop-holds Inv-loop μ-loop
 loop-holds c =
-    let start = c .before .before .before .before .before in
-    begin-first (λ o. o) (octets "anchor") (start .pre .0 .good) (start .pre .1) (c .before .link-at .ensures)
+    let start = c .before .before .before .before .before .before in
+    let link-at′ = c .before .before .link-at in
+    rw (c .plus .ensures) (begin-first (λ o. o) (octets "anchor") (start .pre .0 .good) (start .pre .1) (link-at′ .ensures))
 
 param-at-requires : tie.Need-param-at-requires Inv-loop μ-loop
-param-at-requires c κs = in-slots (c .before .loop .inv) (c .loop-test .taken)
+param-at-requires c κs =
+    let loop′ = c .before .before .before .loop in
+    in-slots (loop′ .inv) (c .if1 .taken)
 
 is-anchor-requires : tie.Need-is-anchor-requires Inv-loop μ-loop
 is-anchor-requires c κs =
-    good-here (c .before .before .loop .inv) (c .before .loop-test .taken) (c .param-at .ensures) .name-span
+    let loop′ = c .before .before .before .before .loop in
+    good-here (loop′ .inv) (c .before .if1 .taken) (c .param-at .ensures) .name-span
 
 returns : tie.Need-returns Inv-loop μ-loop
 returns c =
-    let turn = c .before .before .before .before in
-    let start = turn .before .before .before .before .before .before .before in
-    is-anchored (start .pre .0) (start .pre .1) (turn .before .before .before .link-at .ensures)
-    (good-here (turn .before .loop .inv) (turn .loop-test .taken) (c .before .before .before .param-at .ensures))
-    (here (turn .before .loop .inv) (turn .loop-test .taken) (c .before .before .before .param-at .ensures)
-    (sym (c .before .before .is-anchor .ensures) ∙ c .before .if1 .taken))
+    let start = c .before .before .before .before .before .before .before .before .before .before .before .before .before .before in
+    let link-at′ = c .before .before .before .before .before .before .before .before .before .before .link-at in
+    let plus′ = c .before .before .before .before .before .before .before .before .plus in
+    let loop′ = c .before .before .before .before .before .before .before .loop in
+    let if1′ = c .before .before .before .before .if1 in
+    let param-at′ = c .before .before .before .param-at in
+    let is-anchor′ = c .before .before .is-anchor in
+    is-anchored (start .pre .0) (start .pre .1) (link-at′ .ensures)
+    (good-here (loop′ .inv) (if1′ .taken) (param-at′ .ensures))
+    (rw (plus′ .ensures) at (here (loop′ .inv) (if1′ .taken) (param-at′ .ensures)
+    (sym (is-anchor′ .ensures) ∙ c .before .if2 .taken)))
 
-add-p : tie.Need-add-p Inv-loop μ-loop
-add-p c =
-    let turn = c .before .before .before in
-    let start = turn .before .before .before .before .before .before .before in
-    omega (arith, turn .loop-test .taken, turn .before .loop .inv .slots, start .good .1 .1 .0 .0)
+next-requires : tie.Need-next-requires Inv-loop μ-loop
+next-requires c κs =
+    let start = c .before .before .before .before .before .before .before .before .before .before .before .before .before in
+    let loop′ = c .before .before .before .before .before .before .loop in
+    let if1′ = c .before .before .before .if1 in
+    omega (arith, if1′ .taken, loop′ .inv .slots, start .good .1 .1 .0 .0)
 
 loop-less : tie.Need-loop-less Inv-loop μ-loop
-loop-less c = omega (arith, c .before .before .before .loop-test .taken)
+loop-less c =
+    let if1′ = c .before .before .before .before .if1 in
+    omega (arith, c .next .ensures, if1′ .taken)
 
 loop-again : tie.Need-loop-again Inv-loop μ-loop
 loop-again c =
-    onward (c .before .before .before .before .loop .inv) (c .before .before .before .loop-test .taken)
-    (c .before .before .param-at .ensures) (sym (c .before .is-anchor .ensures) ∙ c .if1 .left)
+    let loop′ = c .before .before .before .before .before .before .before .loop in
+    let if1′ = c .before .before .before .before .if1 in
+    let param-at′ = c .before .before .before .param-at in
+    let is-anchor′ = c .before .before .is-anchor in
+    rw (c .next .ensures) (onward (loop′ .inv) (if1′ .taken) (param-at′ .ensures) (sym (is-anchor′ .ensures) ∙ c .before .if2 .left))
 
 returns-2 : tie.Need-returns-2 Inv-loop μ-loop
 returns-2 c =
-    let start = c .before .before .before .before .before .before .before in
-    is-base (start .pre .0) (start .pre .1) (c .before .before .before .link-at .ensures)
-    (none-named (c .before .loop .inv) (c .loop-test .left))
+    let start = c .before .before .before .before .before .before .before .before .before .before in
+    let link-at′ = c .before .before .before .before .before .before .link-at in
+    let plus′ = c .before .before .before .before .plus in
+    let loop′ = c .before .before .before .loop in
+    is-base (start .pre .0) (start .pre .1) (link-at′ .ensures) (rw (plus′ .ensures) at (none-named (loop′ .inv) (c .if1 .left)))
 
 pub anchor-of-spec : {M : Type 1} → statement M
 anchor-of-spec =
@@ -79,12 +96,12 @@ anchor-of-spec =
     Inv-loop
     μ-loop
     link-at-requires
-    add-end
+    plus-requires
     loop-holds
     param-at-requires
     is-anchor-requires
     returns
-    add-p
+    next-requires
     loop-less
     loop-again
     returns-2)

@@ -20,61 +20,72 @@ returns-2 c =
     no-such-param (start .pre) (link .if1 .left)
     (counted (start .pre) (link .if1 .left) (c .before .before .link-at .ensures) (c .if2 .taken))
 
-add-if3 : tie.Need-add-if3
-add-if3 c =
-    let place = c .before in
-    let link = place .before .before .before in
-    let start = link .before .before .before .before .before .before in
-    omega (
-      arith,
-      number-fits (start .pre) (link .if1 .left) (place .before .before .link-at .ensures) (place .if2 .left),
-      start .fits .param-count,
-    )
+plus-requires : tie.Need-plus-requires
+plus-requires c κs =
+    let start = c .before .before .before .before .before .before .before .before .before in
+    let if1′ = c .before .before .before .if1 in
+    let link-at′ = c .before .before .link-at in
+    omega (arith, number-fits (start .pre) (if1′ .left) (link-at′ .ensures) (c .if2 .left), start .fits .param-count)
 
 param-at-requires : tie.Need-param-at-requires
 param-at-requires c κs =
-    let place = c .before in
-    let link = place .before .before .before in
-    let start = link .before .before .before .before .before .before in
-    in-slots (start .pre) (link .if1 .left) (place .before .before .link-at .ensures) (place .if2 .left)
+    let start = c .before .before .before .before .before .before .before .before .before .before in
+    let if1′ = c .before .before .before .before .if1 in
+    let link-at′ = c .before .before .before .link-at in
+    omega (arith, c .plus .ensures, in-slots (start .pre) (if1′ .left) (link-at′ .ensures) (c .before .if2 .left))
 
 meaning-len-requires : tie.Need-meaning-len-requires
 meaning-len-requires c κs =
-    let place = c .before .before in
-    let link = place .before .before .before in
-    let start = link .before .before .before .before .before .before in
-    good-spans (start .pre) (link .if1 .left) (place .before .before .link-at .ensures) (place .if2 .left) (c .param-at .ensures)
+    let start = c .before .before .before .before .before .before .before .before .before .before .before in
+    let if1′ = c .before .before .before .before .before .if1 in
+    let link-at′ = c .before .before .before .before .link-at in
+    let if2′ = c .before .before .if2 in
+    let told = rw (c .before .plus .ensures) at (c .param-at .ensures) in
+    good-spans (start .pre) (if1′ .left) (link-at′ .ensures) (if2′ .left) told
 
 returns-3 : tie.Need-returns-3
 returns-3 c =
-    let place = c .before .before .before .before in
-    let link = place .before .before .before in
-    let start = link .before .before .before .before .before .before in
-    short-buffer (start .pre) (link .if1 .left) (place .before .before .link-at .ensures) (place .if2 .left)
-    (c .before .before .param-at .ensures) (start .args .out .now) (c .before .meaning-len .ensures) (c .if3 .taken)
+    let start = c .before .before .before .before .before .before .before .before .before .before .before .before .before in
+    let if1′ = c .before .before .before .before .before .before .before .if1 in
+    let link-at′ = c .before .before .before .before .before .before .link-at in
+    let if2′ = c .before .before .before .before .if2 in
+    let plus′ = c .before .before .before .plus in
+    let param-at′ = c .before .before .param-at in
+    let told = rw (plus′ .ensures) at (param-at′ .ensures) in
+    short-buffer (start .pre) (if1′ .left) (link-at′ .ensures) (if2′ .left) told
+    (start .args .out .now) (c .before .meaning-len .ensures) (c .if3 .taken)
 
 copy-meaning-requires : tie.Need-copy-meaning-requires
 copy-meaning-requires c κs =
-    let place = c .before .before .before .before .before in
-    let link = place .before .before .before in
-    let start = link .before .before .before .before .before .before in
-    let spans =
-    good-spans (start .pre) (link .if1 .left) (place .before .before .link-at .ensures) (place .if2 .left)
-    (c .before .before .before .param-at .ensures)
-    in
-    (spans .0, spans .1, omega (arith, c .before .before .meaning-len .ensures, c .before .if3 .left))
+    let start = c .before .before .before .before .before .before .before .before .before .before .before .before .before .before in
+    let if1′ = c .before .before .before .before .before .before .before .before .if1 in
+    let link-at′ = c .before .before .before .before .before .before .before .link-at in
+    let if2′ = c .before .before .before .before .before .if2 in
+    let plus′ = c .before .before .before .before .plus in
+    let param-at′ = c .before .before .before .param-at in
+    let meaning-len′ = c .before .before .meaning-len in
+    let told = rw (plus′ .ensures) at (param-at′ .ensures) in
+    let spans = good-spans (start .pre) (if1′ .left) (link-at′ .ensures) (if2′ .left) told in
+    (spans .0, spans .1, omega (arith, meaning-len′ .ensures, c .before .if3 .left))
 
 same-length : tie.Need-same-length
 same-length c = search needs
 
 returns-4 : tie.Need-returns-4
 returns-4 c =
-    let place = c .before .before .before .before .before .before .before .before in
-    let link = place .before .before .before in
-    let start = link .before .before .before .before .before .before in
-    all-copied (start .pre) (link .if1 .left) (place .before .before .link-at .ensures) (place .if2 .left)
-    (c .before .before .before .before .before .before .param-at .ensures) (c .before .before .before .before .before .meaning-len .ensures)
-    (c .before .before .before .before .if3 .left) (c .before .before .copy-meaning .ensures)
+    let earlier = c .before .before .before .before .before .before .before .before .before .before .before in
+    let start = earlier .before .before .before .before .before .before in
+    let if1′ = earlier .if1 in
+    let link-at′ = c .before .before .before .before .before .before .before .before .before .before .link-at in
+    let if2′ = c .before .before .before .before .before .before .before .before .if2 in
+    let plus′ = c .before .before .before .before .before .before .before .plus in
+    let param-at′ = c .before .before .before .before .before .before .param-at in
+    let meaning-len′ = c .before .before .before .before .before .meaning-len in
+    let if3′ = c .before .before .before .before .if3 in
+    let copy-meaning′ = c .before .before .copy-meaning in
+    let told = rw (plus′ .ensures) at (param-at′ .ensures) in
+    all-copied (start .pre) (if1′ .left) (link-at′ .ensures) (if2′ .left) told
+    (meaning-len′ .ensures) (if3′ .left) (copy-meaning′ .ensures)
 
 pub copy-at-spec : {M : Type 1} → statement M
 copy-at-spec =
@@ -83,7 +94,7 @@ copy-at-spec =
     returns
     link-at-requires
     returns-2
-    add-if3
+    plus-requires
     param-at-requires
     meaning-len-requires
     returns-3

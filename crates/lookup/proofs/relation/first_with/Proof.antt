@@ -10,43 +10,49 @@ use Rattle.tables.specs.Table.{tableOf}
 use Rattle.lookup.proofs.Walking.{in-slots, good-here, good-value}
 use Rattle.lookup.proofs.Searching.{AtParam, AtRun, first-param, next-param, none-related, unrelated}
 use Rattle.lookup.proofs.Searching.{first-run, next-one, matched, one-more}
+use borrow.Author.Needs.{needs}
 use Rattle.lookup.proofs.relation.first_with.Statement.{statement}
 use Rattle.lookup.proofs.relation.first_with.Tie as tie
 
 abbrev Inv-loop2 : tie.InvT-loop2
-Inv-loop2 text links params link-count param-count relation l p end e k₀ k =
-    AtRun text relation (has (tableOf text links params link-count param-count) relation l) e k
+Inv-loop2 text links params link-count param-count relation l end e k₀ k =
+    AtRun text relation (has (tableOf text links params link-count param-count) relation (l .0)) e k
 
 abbrev μ-loop2 : tie.MeasureT-loop2
-μ-loop2 text links params link-count param-count relation l p end e k₀ k = e - k
+μ-loop2 text links params link-count param-count relation l end e k₀ k = e - k
 
 abbrev Inv-loop : tie.InvT-loop
 Inv-loop text links params link-count param-count relation l p₀ end p =
-    AtParam (tableOf text links params link-count param-count) relation l end p
+    AtParam (tableOf text links params link-count param-count) relation (l .0) (end .0) (p .0)
 
 abbrev μ-loop : tie.MeasureT-loop
-μ-loop text links params link-count param-count relation l p₀ end p = end - p
+μ-loop text links params link-count param-count relation l p₀ end p = end .0 - p .0
 
 abbrev Inv-search : tie.InvT-search
 Inv-search text links params link-count param-count relation l₀ l =
-    (j : ℕ) → j < l → has (tableOf text links params link-count param-count) relation j ≡ false
+    (j : ℕ) → j < l .0 → has (tableOf text links params link-count param-count) relation j ≡ false
 
 abbrev μ-search : tie.MeasureT-search
-μ-search text links params link-count param-count relation l₀ l = link-count - l
+μ-search text links params link-count param-count relation l₀ l = link-count - l .0
+
+first-requires : tie.Need-first-requires Inv-loop2 μ-loop2 Inv-loop μ-loop Inv-search μ-search
+first-requires c κs = search needs
 
 search-holds : tie.Need-search-holds Inv-loop2 μ-loop2 Inv-loop μ-loop Inv-search μ-search
-search-holds c = λ j h. absurd (omega arith)
+search-holds c = λ j h. absurd (omega (arith, c .first .ensures))
 
 link-at-requires : tie.Need-link-at-requires Inv-loop2 μ-loop2 Inv-loop μ-loop Inv-search μ-search
-link-at-requires c κs = link-slots (c .before .before .before .before .before .before .pre .good) (c .if1 .left)
+link-at-requires c κs =
+    let start = c .before .before .before .before .before .before .before .before in
+    link-slots (start .pre .good) (c .if1 .left)
 
-add-end : tie.Need-add-end Inv-loop2 μ-loop2 Inv-loop μ-loop Inv-search μ-search
-add-end c =
-    let link = c .before .before in
-    let start = link .before .before .before .before .before .before in
+plus-requires : tie.Need-plus-requires Inv-loop2 μ-loop2 Inv-loop μ-loop Inv-search μ-search
+plus-requires c κs =
+    let start = c .before .before .before .before .before .before .before .before .before .before in
+    let if1′ = c .before .before .if1 in
     omega (
       arith,
-      params-inside (start .pre .good) (link .if1 .left),
+      params-inside (start .pre .good) (if1′ .left),
       c .before .link-at .ensures .first,
       c .before .link-at .ensures .count,
       start .fits .param-count,
@@ -54,102 +60,121 @@ add-end c =
 
 loop-holds : tie.Need-loop-holds Inv-loop2 μ-loop2 Inv-loop μ-loop Inv-search μ-search
 loop-holds c =
-    let link = c .before .before in
-    let start = link .before .before .before .before .before .before in
-    first-param (start .args .relation .now) (start .pre) (link .if1 .left) (c .before .link-at .ensures)
+    let start = c .before .before .before .before .before .before .before .before .before .before .before in
+    let if1′ = c .before .before .before .if1 in
+    let link-at′ = c .before .before .link-at in
+    rw (c .plus .ensures) (first-param (start .args .relation .now) (start .pre) (if1′ .left) (link-at′ .ensures))
 
-param-at-requires :
-    tie.Need-param-at-requires Inv-loop2 μ-loop2 Inv-loop μ-loop Inv-search μ-search
-param-at-requires c κs = in-slots (c .before .loop .inv .walk) (c .loop-test .taken)
+param-at-requires : tie.Need-param-at-requires Inv-loop2 μ-loop2 Inv-loop μ-loop Inv-search μ-search
+param-at-requires c κs =
+    let loop′ = c .before .before .before .loop in
+    in-slots (loop′ .inv .walk) (c .if2 .taken)
 
 is-rel-requires : tie.Need-is-rel-requires Inv-loop2 μ-loop2 Inv-loop μ-loop Inv-search μ-search
 is-rel-requires c κs =
-    good-here (c .before .before .loop .inv .walk) (c .before .loop-test .taken) (c .param-at .ensures) .name-span
+    let loop′ = c .before .before .before .before .loop in
+    good-here (loop′ .inv .walk) (c .before .if2 .taken) (c .param-at .ensures) .name-span
 
-next-run-requires :
-    tie.Need-next-run-requires Inv-loop2 μ-loop2 Inv-loop μ-loop Inv-search μ-search
+next-run-requires : tie.Need-next-run-requires Inv-loop2 μ-loop2 Inv-loop μ-loop Inv-search μ-search
 next-run-requires c κs =
-    good-value (c .before .before .before .before .loop .inv .walk) (c .before .before .before .loop-test .taken)
-    (c .before .before .param-at .ensures)
+    let loop′ = c .before .before .before .before .before .before .loop in
+    let if2′ = c .before .before .before .if2 in
+    let param-at′ = c .before .before .param-at in
+    good-value (loop′ .inv .walk) (if2′ .taken) (param-at′ .ensures)
 
 loop2-holds : tie.Need-loop2-holds Inv-loop2 μ-loop2 Inv-loop μ-loop Inv-search μ-search
 loop2-holds c =
-    let turn = c .before .before .before .before in
-    first-run (turn .before .loop .inv) (turn .loop-test .taken) (c .before .before .before .param-at .ensures)
-    (sym (c .before .before .is-rel .ensures) ∙ c .before .if2 .taken)
-    (c .next-run .ensures)
+    let loop′ = c .before .before .before .before .before .before .before .loop in
+    let if2′ = c .before .before .before .before .if2 in
+    let param-at′ = c .before .before .before .param-at in
+    let is-rel′ = c .before .before .is-rel in
+    first-run (loop′ .inv) (if2′ .taken) (param-at′ .ensures) (sym (is-rel′ .ensures) ∙ c .before .if3 .taken) (c .next-run .ensures)
 
-match-run-requires :
-    tie.Need-match-run-requires Inv-loop2 μ-loop2 Inv-loop μ-loop Inv-search μ-search
+match-run-requires : tie.Need-match-run-requires Inv-loop2 μ-loop2 Inv-loop μ-loop Inv-search μ-search
 match-run-requires c κs =
     (c .loop2-test .taken, c .before .loop2 .inv .text, c .before .loop2 .inv .run-begins (c .loop2-test .taken))
 
-next-run-requires-2 :
-    tie.Need-next-run-requires-2 Inv-loop2 μ-loop2 Inv-loop μ-loop Inv-search μ-search
-next-run-requires-2 c κs = (c .before .match-run .ensures .inside, c .before .before .before .loop2 .inv .text)
+next-run-requires-2 : tie.Need-next-run-requires-2 Inv-loop2 μ-loop2 Inv-loop μ-loop Inv-search μ-search
+next-run-requires-2 c κs =
+    let loop2′ = c .before .before .before .loop2 in
+    (c .before .match-run .ensures .inside, loop2′ .inv .text)
 
 loop2-less : tie.Need-loop2-less Inv-loop2 μ-loop2 Inv-loop μ-loop Inv-search μ-search
 loop2-less c =
-    omega (
-      arith,
-      c .next-run2 .ensures .forward,
-      c .before .before .match-run .ensures .forward,
-      c .before .before .before .loop2-test .taken,
-    )
+    let loop2-test′ = c .before .before .before .loop2-test in
+    let match-run′ = c .before .before .match-run in
+    omega (arith, c .next-run2 .ensures .forward, match-run′ .ensures .forward, loop2-test′ .taken)
 
 loop2-again : tie.Need-loop2-again Inv-loop2 μ-loop2 Inv-loop μ-loop Inv-search μ-search
 loop2-again c =
-    next-one (c .before .before .before .before .loop2 .inv) (c .before .before .match-run .ensures) (c .before .if3 .left)
-    (c .next-run2 .ensures)
+    let loop2′ = c .before .before .before .before .loop2 in
+    let match-run′ = c .before .before .match-run in
+    next-one (loop2′ .inv) (match-run′ .ensures) (c .before .if4 .left) (c .next-run2 .ensures)
 
 loop-less : tie.Need-loop-less Inv-loop2 μ-loop2 Inv-loop μ-loop Inv-search μ-search
-loop-less c = omega (arith, c .before .before .before .before .before .before .loop-test .taken)
+loop-less c =
+    let if2′ = c .before .before .before .before .before .before .if2 in
+    omega (arith, if2′ .taken)
 
 loop-again : tie.Need-loop-again Inv-loop2 μ-loop2 Inv-loop μ-loop Inv-search μ-search
 loop-again c =
-    unrelated (c .before .before .before .before .before .before .before .loop .inv) (c .before .loop2 .inv)
-    (c .loop2-test .left)
+    let loop′ = c .before .before .before .before .before .before .before .before .before .loop in
+    unrelated (loop′ .inv) (c .before .loop2 .inv) (c .loop2-test .left)
 
-add-p : tie.Need-add-p Inv-loop2 μ-loop2 Inv-loop μ-loop Inv-search μ-search
-add-p c =
-    let turn = c .before .before .before in
-    let start = turn .before .before .before .before .before .before .before .before .before .before in
-    omega (arith, turn .loop-test .taken, turn .before .loop .inv .walk .slots, start .good .1 .1 .0 .0)
+next-requires : tie.Need-next-requires Inv-loop2 μ-loop2 Inv-loop μ-loop Inv-search μ-search
+next-requires c κs =
+    let earlier = c .before .before .before .before .before .before in
+    let start = earlier .before .before .before .before .before .before .before .before .before .before .before .before in
+    let loop′ = earlier .loop in
+    let if2′ = c .before .before .before .if2 in
+    omega (arith, if2′ .taken, loop′ .inv .walk .slots, start .good .1 .1 .0 .0)
 
 loop-less-2 : tie.Need-loop-less-2 Inv-loop2 μ-loop2 Inv-loop μ-loop Inv-search μ-search
-loop-less-2 c = omega (arith, c .before .before .before .loop-test .taken)
+loop-less-2 c =
+    let if2′ = c .before .before .before .before .if2 in
+    omega (arith, c .next .ensures, if2′ .taken)
 
 loop-again-2 : tie.Need-loop-again-2 Inv-loop2 μ-loop2 Inv-loop μ-loop Inv-search μ-search
 loop-again-2 c =
-    let turn = c .before .before .before in
-    next-param (turn .before .loop .inv) (turn .loop-test .taken) (c .before .before .param-at .ensures)
-    (sym (c .before .is-rel .ensures) ∙ c .if2 .left)
+    let loop′ = c .before .before .before .before .before .before .before .loop in
+    let if2′ = c .before .before .before .before .if2 in
+    let param-at′ = c .before .before .before .param-at in
+    let is-rel′ = c .before .before .is-rel in
+    rw (c .next .ensures) (next-param (loop′ .inv) (if2′ .taken) (param-at′ .ensures) (sym (is-rel′ .ensures) ∙ c .before .if3 .left))
 
-add-l : tie.Need-add-l Inv-loop2 μ-loop2 Inv-loop μ-loop Inv-search μ-search
-add-l c =
-    let link = c .before .before .before .before in
-    omega (arith, link .if1 .left, link .before .before .before .before .before .before .fits .link-count)
+next-requires-2 : tie.Need-next-requires-2 Inv-loop2 μ-loop2 Inv-loop μ-loop Inv-search μ-search
+next-requires-2 c κs =
+    let start =
+    c .before .before .before .before .before .before .before .before .before .before .before .before .before .before .before
+    in
+    let if1′ = c .before .before .before .before .before .before .before .if1 in
+    omega (arith, if1′ .left, start .fits .link-count)
 
 search-less : tie.Need-search-less Inv-loop2 μ-loop2 Inv-loop μ-loop Inv-search μ-search
-search-less c = omega (arith, c .before .before .before .before .if1 .left)
+search-less c =
+    let if1′ = c .before .before .before .before .before .before .before .before .if1 in
+    omega (arith, c .next2 .ensures, if1′ .left)
 
 search-again : tie.Need-search-again Inv-loop2 μ-loop2 Inv-loop μ-loop Inv-search μ-search
 search-again c =
-    one-more (c .before .before .before .before .before .search .inv)
-    (none-related (c .before .loop .inv) (c .loop-test .left))
+    let search′ = c .before .before .before .before .before .before .before .before .before .before .search in
+    let loop′ = c .before .before .before .before .loop in
+    rw (c .next2 .ensures) (one-more (search′ .inv) (none-related (loop′ .inv) (c .before .if2 .left)))
 
 returns : tie.Need-returns Inv-loop2 μ-loop2 Inv-loop μ-loop Inv-search μ-search
 returns c =
-    no-link (c .before .before .before .before .before .before .pre)
-    (λ i h. c .before .search .inv i (omega (arith, c .if1 .taken)))
+    let start = c .before .before .before .before .before .before .before .before in
+    let search′ = c .before .before .search in
+    no-link (start .pre) (λ i h. search′ .inv i (omega (arith, c .if1 .taken)))
 
 returns-2 : tie.Need-returns-2 Inv-loop2 μ-loop2 Inv-loop μ-loop Inv-search μ-search
 returns-2 c =
-    let run = c .before .before .before in
-    let param = run .before .before .before .before .before .before in
-    let w = param .loop .inv in
-    found (w .usable) (w .is-link) (matched (run .loop2 .inv) (c .before .match-run .ensures) (c .if3 .taken))
-    (param .before .before .before .before .search .inv)
+    let earlier = c .before .before .before .before .before .before .before .before .before .before .before in
+    let search′ = earlier .before .before .before .before .before .before .search in
+    let loop′ = earlier .loop in
+    let loop2′ = c .before .before .before .loop2 in
+    found (loop′ .inv .usable) (loop′ .inv .is-link) (matched (loop2′ .inv) (c .before .match-run .ensures) (c .if4 .taken))
+    (search′ .inv)
 
 pub first-with-spec : {M : Type 1} → statement M
 first-with-spec =
@@ -161,9 +186,10 @@ first-with-spec =
     μ-loop
     Inv-search
     μ-search
+    first-requires
     search-holds
     link-at-requires
-    add-end
+    plus-requires
     loop-holds
     param-at-requires
     is-rel-requires
@@ -175,10 +201,10 @@ first-with-spec =
     loop2-again
     loop-less
     loop-again
-    add-p
+    next-requires
     loop-less-2
     loop-again-2
-    add-l
+    next-requires-2
     search-less
     search-again
     returns

@@ -20,19 +20,23 @@ none-requires c κs = search needs
 loop-holds : tie.Need-loop-holds Inv-loop μ-loop
 loop-holds c = begin (c .none .ensures)
 
-add-t10 : tie.Need-add-t10 Inv-loop μ-loop
-add-t10 c = omega arith
+plus-requires : tie.Need-plus-requires Inv-loop μ-loop
+plus-requires c κs = omega arith
 
 param-at-requires : tie.Need-param-at-requires Inv-loop μ-loop
-param-at-requires c κs = omega arith
+param-at-requires c κs = omega (arith, c .plus .ensures)
 
 is-good-param-requires : tie.Need-is-good-param-requires Inv-loop μ-loop
 is-good-param-requires c κs = search needs
 
 returns : tie.Need-returns Inv-loop μ-loop
 returns c =
-    bad-param (c .before .before .before .before .before .loop .inv) (c .before .before .before .before .loop-test .taken)
-    (c .before .before .param-at .ensures) (c .before .is-good-param .ensures .fails (not-true _ (c .if1 .taken)))
+    let loop′ = c .before .before .before .before .before .loop in
+    let loop-test′ = c .before .before .before .before .loop-test in
+    let plus′ = c .before .before .before .plus in
+    let param-at′ = c .before .before .param-at in
+    let told = rw (plus′ .ensures) at (param-at′ .ensures) in
+    bad-param (loop′ .inv) (loop-test′ .taken) told (c .before .is-good-param .ensures .fails (not-true _ (c .if1 .taken)))
 
 code-requires : tie.Need-code-requires Inv-loop μ-loop
 code-requires c κs =
@@ -44,9 +48,13 @@ has-requires c κs = search needs
 returns-2 : tie.Need-returns-2 Inv-loop μ-loop
 unfolding nameOf
 returns-2 c =
-    let b = c .before .before .before .before .before in
-    repeated (b .before .before .before .loop .inv) (b .before .before .loop-test .taken) (b .param-at .ensures)
-    (c .before .before .code .ensures) (c .before .has .ensures) (c .if2 .taken)
+    let loop′ = c .before .before .before .before .before .before .before .before .loop in
+    let loop-test′ = c .before .before .before .before .before .before .before .loop-test in
+    let plus′ = c .before .before .before .before .before .before .plus in
+    let param-at′ = c .before .before .before .before .before .param-at in
+    let code′ = c .before .before .code in
+    let told = rw (plus′ .ensures) at (param-at′ .ensures) in
+    repeated (loop′ .inv) (loop-test′ .taken) told (code′ .ensures) (c .before .has .ensures) (c .if2 .taken)
 
 with-requires : tie.Need-with-requires Inv-loop μ-loop
 with-requires c κs = search needs
@@ -60,11 +68,17 @@ loop-less c = omega arith
 loop-again : tie.Need-loop-again Inv-loop μ-loop
 unfolding nameOf
 loop-again c =
-    let d = c .before .before .before .before in
-    let b = d .before .before in
-    passed (b .before .before .before .loop .inv) (b .before .before .loop-test .taken) (b .param-at .ensures)
-    (c .before .before .before .code .ensures) (c .before .before .has .ensures) (c .before .if2 .left)
-    (d .before .is-good-param .ensures .holds (not-false _ (d .if1 .left))) (c .with .ensures)
+    let loop′ = c .before .before .before .before .before .before .before .before .before .loop in
+    let loop-test′ = c .before .before .before .before .before .before .before .before .loop-test in
+    let plus′ = c .before .before .before .before .before .before .before .plus in
+    let param-at′ = c .before .before .before .before .before .before .param-at in
+    let is-good-param′ = c .before .before .before .before .before .is-good-param in
+    let if1′ = c .before .before .before .before .if1 in
+    let code′ = c .before .before .before .code in
+    let has′ = c .before .before .has in
+    let told = rw (plus′ .ensures) at (param-at′ .ensures) in
+    passed (loop′ .inv) (loop-test′ .taken) told (code′ .ensures) (has′ .ensures) (c .before .if2 .left)
+    (is-good-param′ .ensures .holds (not-false _ (if1′ .left))) (c .with .ensures)
 
 returns-3 : tie.Need-returns-3 Inv-loop μ-loop
 returns-3 c = through (c .before .loop .inv) (c .loop-test .left)
@@ -77,7 +91,7 @@ are-good-params-spec =
     μ-loop
     none-requires
     loop-holds
-    add-t10
+    plus-requires
     param-at-requires
     is-good-param-requires
     returns

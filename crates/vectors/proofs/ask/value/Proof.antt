@@ -12,6 +12,9 @@ slice-aggregate-write-all c = search needs
 write-all-requires : tie.Need-write-all-requires
 write-all-requires c κs = search needs
 
+first-requires : tie.Need-first-requires
+first-requires c κs = search needs
+
 value-requires : tie.Need-value-requires
 value-requires c κs = search needs
 
@@ -122,6 +125,7 @@ value-spec =
     (tie.spec
     slice-aggregate-write-all
     write-all-requires
+    first-requires
     value-requires
     enum-known-k
     slice-reshare-prefix-put-octets

@@ -42,19 +42,16 @@ put-requires-2 c κs =
     let w2 = several {bs = target} w1 (put-part′ .ensures) in
     octet-room w2
 
-add-t17 : tie.Need-add-t17
-add-t17 c = search needs
+plus-requires : tie.Need-plus-requires
+plus-requires c κs = search needs
 
 put-params-requires : tie.Need-put-params-requires
 put-params-requires c κs =
-    let start =
-    c .before .before .before .before .before .before .before .before .before .before .before .before .before .before .before .before .before .before .before
-    in
-    let put′ =
-    c .before .before .before .before .before .before .before .before .before .before .before .before .before .before .put
-    in
-    let put-part′ = c .before .before .before .before .before .before .before .before .before .before .put-part in
-    let put2′ = c .before .before .before .before .before .before .put2 in
+    let earlier = c .before .before .before .before .before .before .before .before .before .before .before .before .before in
+    let start = earlier .before .before .before .before .before in
+    let put′ = earlier .put in
+    let put-part′ = c .before .before .before .before .before .before .before .before .before .put-part in
+    let put2′ = c .before .before .before .before .before .put2 in
     let l = start .args .l in
     let target = slice (l .target .from .0) (l .target .to .0) (start .args .text .now) in
     let w =
@@ -65,23 +62,19 @@ put-params-requires c κs =
     let w2 = several {bs = target} w1 (put-part′ .ensures) in
     let w3 = several w2 (put2′ .ensures) in
     let w4 = onto (whole-run (start .args .text .now) (start .args .params .now) (l .first .0) (l .count)) w3 in
-    (start .pre .1, start .pre .2, last-room w4)
+    (rw (c .before .plus .ensures) (start .pre .1), start .pre .2, rw (c .before .plus .ensures) (last-room w4))
 
 same-length : tie.Need-same-length
 same-length c = search needs
 
 returns : tie.Need-returns
 returns c =
-    let start =
-    c .before .before .before .before .before .before .before .before .before .before .before .before .before .before .before .before .before .before .before .before .before .before
-    in
-    let put′ =
-    c .before .before .before .before .before .before .before .before .before .before .before .before .before .before .before .before .before .put
-    in
-    let put-part′ =
-    c .before .before .before .before .before .before .before .before .before .before .before .before .before .put-part
-    in
-    let put2′ = c .before .before .before .before .before .before .before .before .before .put2 in
+    let earlier = c .before .before .before .before .before .before .before .before .before .before .before .before in
+    let start = earlier .before .before .before .before .before .before .before .before .before in
+    let put′ = earlier .before .before .before .before .put in
+    let put-part′ = earlier .put-part in
+    let put2′ = c .before .before .before .before .before .before .before .before .put2 in
+    let plus′ = c .before .before .before .before .plus in
     let put-params′ = c .before .before .put-params in
     let l = start .args .l in
     let target = slice (l .target .from .0) (l .target .to .0) (start .args .text .now) in
@@ -93,7 +86,7 @@ returns c =
     let w2 = several {bs = target} w1 (put-part′ .ensures) in
     let w3 = several w2 (put2′ .ensures) in
     let w4 = onto (whole-run (start .args .text .now) (start .args .params .now) (l .first .0) (l .count)) w3 in
-    last w4 (put-params′ .ensures)
+    last w4 (rw (plus′ .ensures) at (put-params′ .ensures))
 
 pub put-link-spec : {M : Type 1} → statement M
 put-link-spec =
@@ -102,7 +95,7 @@ put-link-spec =
     put-requires
     put-part-requires
     put-requires-2
-    add-t17
+    plus-requires
     put-params-requires
     same-length
     returns)

@@ -12,76 +12,89 @@ use Rattle.writer.proofs.measure.params_len.Tie as tie
 
 abbrev Inv-loop : tie.InvT-loop
 Inv-loop text params end before n₀ p₀ n p =
-    Measuring text params (before + length (paramsForm text (paramsFrom params p₀ (end .0 - p₀)))) (end .0) n p
+    Measuring text params (before + length (paramsForm text (paramsFrom params (p₀ .0) (end .0 - p₀ .0)))) (end .0) n (p .0)
 
 abbrev μ-loop : tie.MeasureT-loop
-μ-loop text params end before n₀ p₀ n p = end .0 - p
+μ-loop text params end before n₀ p₀ n p = end .0 - p .0
 
 loop-holds : tie.Need-loop-holds Inv-loop μ-loop
-loop-holds c = record { run = c .before .before .pre .0; short = c .before .before .pre .1; whole = refl }
+loop-holds c =
+    let start = c .before .before in
+    record { run = start .pre .0; short = start .pre .1; whole = refl }
 
 param-at-requires : tie.Need-param-at-requires Inv-loop μ-loop
-param-at-requires c κs = in-slots (c .before .before .before .loop .inv) (c .before .if1 .taken)
+param-at-requires c κs =
+    let loop′ = c .before .before .before .before .loop in
+    in-slots (loop′ .inv) (c .before .if1 .taken)
 
 sub-name : tie.Need-sub-name Inv-loop μ-loop
 sub-name c =
-    let turn = c .before .before .before in
-    good-here (turn .before .before .loop .inv) (turn .if1 .taken) (c .before .param-at .ensures) .name-span .ordered
+    let loop′ = c .before .before .before .before .before .before .loop in
+    let if1′ = c .before .before .before .if1 in
+    good-here (loop′ .inv) (if1′ .taken) (c .before .param-at .ensures) .name-span .ordered
 
 value-shape-requires : tie.Need-value-shape-requires Inv-loop μ-loop
 value-shape-requires c κs =
-    let turn = c .before .before .before in
-    let inv = turn .before .before .loop .inv in
-    (good-here inv (turn .if1 .taken) (c .before .param-at .ensures), inv .short)
+    let loop′ = c .before .before .before .before .before .before .loop in
+    let if1′ = c .before .before .before .if1 in
+    (good-here (loop′ .inv) (if1′ .taken) (c .before .param-at .ensures), loop′ .inv .short)
 
 add-n : tie.Need-add-n Inv-loop μ-loop
 add-n c =
-    let turn = c .before .before .before .before .before in
-    let param = c .before .before .before .param-at .ensures in
-    omega (
-      arith,
-      added (turn .before .before .loop .inv) (turn .if1 .taken) param (c .before .value-shape .ensures),
-    )
+    let loop′ = c .before .before .before .before .before .before .before .before .loop in
+    let if1′ = c .before .before .before .before .before .if1 in
+    let param-at′ = c .before .before .before .param-at in
+    omega (arith, added (loop′ .inv) (if1′ .taken) (param-at′ .ensures) (c .before .value-shape .ensures))
 
 add-n-2 : tie.Need-add-n-2 Inv-loop μ-loop
 add-n-2 c =
-    let turn = c .before .before .before .before .before in
-    let param = c .before .before .before .param-at .ensures in
-    omega (
-      arith,
-      added (turn .before .before .loop .inv) (turn .if1 .taken) param (c .before .value-shape .ensures),
-    )
+    let loop′ = c .before .before .before .before .before .before .before .before .loop in
+    let if1′ = c .before .before .before .before .before .if1 in
+    let param-at′ = c .before .before .before .param-at in
+    omega (arith, added (loop′ .inv) (if1′ .taken) (param-at′ .ensures) (c .before .value-shape .ensures))
 
 add-n-3 : tie.Need-add-n-3 Inv-loop μ-loop
 add-n-3 c =
-    let turn = c .before .before .before .before .before in
-    let param = c .before .before .before .param-at .ensures in
+    let loop′ = c .before .before .before .before .before .before .before .before .loop in
+    let if1′ = c .before .before .before .before .before .if1 in
+    let if2′ = c .before .before .before .before .if2 in
+    let param-at′ = c .before .before .before .param-at in
     omega (
       arith,
-      added (turn .before .before .loop .inv) (turn .if1 .taken) param (c .before .value-shape .ensures),
-      leb-true (turn .before .before .loop .n) 8192 (c .before .before .before .before .if2 .taken),
+      added (loop′ .inv) (if1′ .taken) (param-at′ .ensures) (c .before .value-shape .ensures),
+      leb-true (loop′ .n) 8192
+          (if2′ .taken),
     )
 
-add-p : tie.Need-add-p Inv-loop μ-loop
-add-p c =
-    let turn = c .before .before .before .before .before in
-    let start = turn .before .before .before .before .before in
-    omega (arith, turn .if1 .taken, turn .before .before .loop .inv .run .slots, start .good .1 .0 .0)
+next-requires : tie.Need-next-requires Inv-loop μ-loop
+next-requires c κs =
+    let start = c .before .before .before .before .before .before .before .before .before .before .before in
+    let loop′ = c .before .before .before .before .before .before .before .before .loop in
+    let if1′ = c .before .before .before .before .before .if1 in
+    omega (arith, if1′ .taken, loop′ .inv .run .slots, start .good .1 .0 .0)
 
 loop-less : tie.Need-loop-less Inv-loop μ-loop
-loop-less c = omega (arith, c .before .before .before .before .before .if1 .taken)
+loop-less c =
+    let if1′ = c .before .before .before .before .before .before .if1 in
+    omega (arith, c .next .ensures, if1′ .taken)
 
 loop-again : tie.Need-loop-again Inv-loop μ-loop
 loop-again c =
-    let turn = c .before .before .before .before .before in
-    measure-more (turn .before .before .loop .inv) (turn .if1 .taken) (c .before .before .before .param-at .ensures)
-    (c .before .value-shape .ensures)
+    let loop′ = c .before .before .before .before .before .before .before .before .before .loop in
+    let if1′ = c .before .before .before .before .before .before .if1 in
+    let param-at′ = c .before .before .before .before .param-at in
+    let value-shape′ = c .before .before .value-shape in
+    rw (c .next .ensures) (measure-more (loop′ .inv) (if1′ .taken) (param-at′ .ensures) (value-shape′ .ensures))
 
 returns : tie.Need-returns Inv-loop μ-loop
-returns c = over-limit (c .before .before .before .loop .inv) (leb-false (c .before .before .before .loop .n) 8192 (c .if2 .left))
+returns c =
+    let loop′ = c .before .before .before .before .loop in
+    over-limit (loop′ .inv) (leb-false (loop′ .n) 8192 (c .if2 .left))
 
 returns-2 : tie.Need-returns-2 Inv-loop μ-loop
-returns-2 c = all-measured (c .before .before .loop .inv) (c .if1 .left)
+returns-2 c =
+    let loop′ = c .before .before .before .loop in
+    all-measured (loop′ .inv) (c .if1 .left)
 
 pub params-len-spec : {M : Type 1} → statement M
 params-len-spec =
@@ -96,7 +109,7 @@ params-len-spec =
     add-n
     add-n-2
     add-n-3
-    add-p
+    next-requires
     loop-less
     loop-again
     returns

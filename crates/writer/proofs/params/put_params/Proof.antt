@@ -9,65 +9,72 @@ use Rattle.writer.proofs.params.put_params.Statement.{statement}
 use Rattle.writer.proofs.params.put_params.Tie as tie
 
 abbrev Inv-loop : tie.InvT-loop
-Inv-loop text params end out₀ at to₀ p₀ out to p = (p₀ ≤ p) × Going (paramsLeft text params (end .0)) (end .0) out₀ at (paramsLeft text params (end .0) p₀) out to p
+Inv-loop text params end out₀ at to₀ p₀ out to p =
+    (p₀ .0 ≤ p .0) × Going (paramsLeft text params (end .0)) (end .0) out₀ at (paramsLeft text params (end .0) (p₀ .0)) out to (p .0)
 
 abbrev μ-loop : tie.MeasureT-loop
-μ-loop text params end out₀ at to₀ p₀ out to p = end .0 - p
+μ-loop text params end out₀ at to₀ p₀ out to p = end .0 - p .0
 
 loop-holds : tie.Need-loop-holds Inv-loop μ-loop
-loop-holds c = (
-  omega arith,
-  start
-      (paramsLeft (c .before .before .before .args .text .now) (c .before .before .before .args .params .now)
-      (c .before .before .before .args .end .0))
-      (c .before .before .before .args .end .0) (c .before .before .before .args .out .now) (c .before .before .before .args .at)
-      (c .before .before .before .args .first .0) (c .before .before .before .pre .0 .ordered) (c .before .before .before .pre .2),
-)
+loop-holds c =
+    let entry = c .before .before .before in (
+      omega arith,
+      start (paramsLeft (entry .args .text .now) (entry .args .params .now) (entry .args .end .0)) (entry .args .end .0)
+          (entry .args .out .now) (entry .args .at)
+          (entry .args .first .0) (entry .pre .0 .ordered) (entry .pre .2),
+    )
 
 param-at-requires : tie.Need-param-at-requires Inv-loop μ-loop
-param-at-requires c κs = omega (arith, c .before .before .before .before .before .before .pre .0 .slots, c .if1 .taken)
+param-at-requires c κs =
+    let entry = c .before .before .before .before .before .before .before in
+    omega (arith, entry .pre .0 .slots, c .if1 .taken)
 
 put-param-requires : tie.Need-put-param-requires Inv-loop μ-loop
 put-param-requires c κs =
-    let start = c .before .before .before .before .before .before .before .before in
-    let loop′ = c .before .before .before .before .loop in
+    let entry = c .before .before .before .before .before .before .before .before .before in
+    let loop′ = c .before .before .before .before .before .loop in
     let if1′ = c .before .before .if1 in
-    let form = paramForm (start .args .text .now) (toParam (c .before .param-at .result)) in
-    let next-one = params-next (start .pre .0) (loop′ .inv .0) (if1′ .taken) (c .before .param-at .ensures) in (
-      good-next (start .pre .0) (loop′ .inv .0) (if1′ .taken) (c .before .param-at .ensures),
-      start .pre .1,
-      slots (loop′ .inv .1) form
-          (loop′ .p) next-one,
+    let form = paramForm (entry .args .text .now) (toParam (c .before .param-at .result)) in
+    let next-one = params-next (entry .pre .0) (loop′ .inv .0) (if1′ .taken) (c .before .param-at .ensures) in (
+      good-next (entry .pre .0) (loop′ .inv .0) (if1′ .taken) (c .before .param-at .ensures),
+      entry .pre .1,
+      slots (loop′ .inv .1) form (loop′ .p .0) next-one,
     )
 
-add-p : tie.Need-add-p Inv-loop μ-loop
-add-p c =
-    omega (
-      arith,
-      c .before .before .before .before .before .before .before .before .before .before .before .pre .0 .slots,
-      c .before .before .before .before .before .if1 .taken,
-    )
+next-requires : tie.Need-next-requires Inv-loop μ-loop
+next-requires c κs =
+    let entry = c .before .before .before .before .before .before .before .before .before .before .before .before in
+    let if1′ = c .before .before .before .before .before .if1 in
+    omega (arith, entry .pre .0 .slots, if1′ .taken)
 
 loop-less : tie.Need-loop-less Inv-loop μ-loop
-loop-less c = omega (arith, c .before .before .before .before .before .if1 .taken)
+loop-less c =
+    let if1′ = c .before .before .before .before .before .before .if1 in
+    omega (arith, c .next .ensures, if1′ .taken)
 
 loop-again : tie.Need-loop-again Inv-loop μ-loop
 loop-again c =
-    let start = c .before .before .before .before .before .before .before .before .before .before .before in
-    let loop′ = c .before .before .before .before .before .before .before .loop in
-    let if1′ = c .before .before .before .before .before .if1 in
-    let param-at′ = c .before .before .before .before .param-at in
-    let put-param′ = c .before .before .put-param in
-    let form = paramForm (start .args .text .now) (toParam (param-at′ .result)) in
-    let next-one = params-next (start .pre .0) (loop′ .inv .0) (if1′ .taken) (param-at′ .ensures) in
-    (omega (arith, loop′ .inv .0), steps (loop′ .inv .1) form (loop′ .p) next-one (if1′ .taken) (put-param′ .ensures))
+    let entry = c .before .before .before .before .before .before .before .before .before .before .before .before .before in
+    let loop′ = c .before .before .before .before .before .before .before .before .before .loop in
+    let if1′ = c .before .before .before .before .before .before .if1 in
+    let param-at′ = c .before .before .before .before .before .param-at in
+    let put-param′ = c .before .before .before .put-param in
+    let form = paramForm (entry .args .text .now) (toParam (param-at′ .result)) in
+    let next-one = params-next (entry .pre .0) (loop′ .inv .0) (if1′ .taken) (param-at′ .ensures) in (
+      omega (arith, loop′ .inv .0, c .next .ensures),
+      rw (c .next .ensures) (steps (loop′ .inv .1) form (loop′ .p .0) next-one (if1′ .taken) (put-param′ .ensures)),
+    )
 
 same-length : tie.Need-same-length Inv-loop μ-loop
-same-length c = c .before .before .loop .inv .1 .put .lengths
+same-length c =
+    let loop′ = c .before .before .before .loop in
+    loop′ .inv .1 .put .lengths
 
 returns : tie.Need-returns Inv-loop μ-loop
 returns c =
-    ended (c .before .before .loop .inv .1) (params-end (c .before .before .before .before .before .before .pre .0) (c .if1 .left))
+    let entry = c .before .before .before .before .before .before .before in
+    let loop′ = c .before .before .before .loop in
+    ended (loop′ .inv .1) (params-end (entry .pre .0) (c .if1 .left))
 
 pub put-params-spec : {M : Type 1} → statement M
 put-params-spec =
@@ -78,7 +85,7 @@ put-params-spec =
     loop-holds
     param-at-requires
     put-param-requires
-    add-p
+    next-requires
     loop-less
     loop-again
     same-length
