@@ -34,6 +34,7 @@ use Rattle.grammar.proofs.Classes.{plain-not-quote, plain-not-backslash}
 use Rattle.grammar.proofs.Machine.{State, target, percent, hex, quote, escape, dead, step, settle, Open}
 use Rattle.grammar.proofs.Prefix.{isDead}
 use Rattle.tables.proofs.Texts.{run-le, inside-le}
+use Rattle.cursor.specs.Passed.{Looked}
 use Rattle.scanner.specs.Stands.{Stands, Halts}
 use Rattle.scanner.specs.Known.{Known, KnownTarget, KnownQuoted}
 use Rattle.scanner.proofs.Standing.{stands-on, halts-at, halts-end}
@@ -155,6 +156,10 @@ pub record Quoting (s : List ℕ) (a i : ℕ) : Type 0 where
   pub left : Inside s i (whole .end)
 
 module _ {s : List ℕ} where
+  -- a look that was answered no
+  not-seen : {i c : ℕ} {b : Bool} → Looked s i c b → b ≡ false → At s i c → ⊥
+  not-seen {i} {c} l f q = true≢false (sym (eq-eqb (getD s i 0) c (q .is)) ∙ l .not f (q .inside))
+
   not-close : (f : ℕ → Bool) {i : ℕ} → f 62 ≡ false → In s f i → In s (λ c. not (eqb c 62)) i
   not-close f {i} n x = record { inside = x .inside; is = rw (not-eqb f 62 (getD s i 0) n (x .is)) }
 
@@ -175,19 +180,19 @@ module _ {s : List ℕ} where
   pub seek-inside : {a i : ℕ} → Seeking s a i → i < length s
   seek-inside g = omega (arith, run-le s (g .left), g .whole .closed .inside)
 
-  pub sought : {a i : ℕ} → Seeking s a i → getD s i 0 ≡ 62 → Target s a i × At s i 62
-  sought {a} {i} g e = go (g .left) (g .whole .inside) (g .whole .closed)
+  pub sought : {a i : ℕ} → Seeking s a i → At s i 62 → Target s a i × At s i 62
+  sought {a} {i} g e = go (g .left) (g .whole .inside)
     where
-      go : {j : ℕ} → Run s (λ c. not (eqb c 62)) i j → Target s a j → At s j 62 → Target s a i × At s i 62
-      go run-end t q = (t, q)
-      go (run-more c r) t q = absurd (true≢false (sym (c .is) ∙ ap not (eq-eqb (getD s i 0) 62 e)))
+      go : {j : ℕ} → Run s (λ c. not (eqb c 62)) i j → Target s a j → Target s a i × At s i 62
+      go run-end t = (t, e)
+      go (run-more c r) t = absurd (true≢false (sym (c .is) ∙ ap not (eq-eqb (getD s i 0) 62 (e .is))))
 
-  pub seek-on : {a i : ℕ} → Seeking s a i → (getD s i 0 ≡ 62 → ⊥) → Seeking s a (i + 1)
-  seek-on {a} {i} g n =
-      record { whole = g .whole; left = rw add-one (go (g .left) (g .whole .closed)) }
+  pub seek-on : {a i j : ℕ} {b : Bool} → Seeking s a i → Looked s i 62 b → b ≡ false → j ≡ i + 1 → Seeking s a j
+  seek-on {i = i} g l f k =
+      record { whole = g .whole; left = rw (k, add-one) (go (g .left) (g .whole .closed)) }
     where
       go : {j : ℕ} → Run s (λ c. not (eqb c 62)) i j → At s j 62 → Run s (λ c. not (eqb c 62)) (suc i) j
-      go run-end q = absurd (n (q .is))
+      go run-end q = absurd (not-seen l f q)
       go (run-more c r) q = r
 
   pub quoting : {a : ℕ} → KnownQuoted s a → Quoting s a a
@@ -198,29 +203,40 @@ module _ {s : List ℕ} where
   pub quoting-inside : {a i : ℕ} → Quoting s a i → i < length s
   quoting-inside g = omega (arith, inside-le s (g .left), g .whole .closed .inside)
 
-  pub quoted-all : {a i : ℕ} → Quoting s a i → getD s i 0 ≡ 34 → Inside s a i × At s i 34
-  quoted-all {a} {i} g e = go (g .left) (g .whole .inside) (g .whole .closed)
+  pub quoted-all : {a i : ℕ} → Quoting s a i → At s i 34 → Inside s a i × At s i 34
+  quoted-all {a} {i} g e = go (g .left) (g .whole .inside)
     where
-      go : {j : ℕ} → Inside s i j → Inside s a j → At s j 34 → Inside s a i × At s i 34
-      go inside-end t q = (t, q)
-      go (plain c r) t q = absurd (true≢false (sym (eq-eqb (getD s i 0) 34 e) ∙ plain-not-quote (getD s i 0) (c .is)))
-      go (pair b c r) t q = absurd (omega (arith, b .is, e))
+      go : {j : ℕ} → Inside s i j → Inside s a j → Inside s a i × At s i 34
+      go inside-end t = (t, e)
+      go (plain c r) t =
+          absurd (true≢false (sym (eq-eqb (getD s i 0) 34 (e .is)) ∙ plain-not-quote (getD s i 0) (c .is)))
+      go (pair b c r) t = absurd (omega (arith, b .is, e .is))
 
-  -- a backslash and the octet behind it
-  pub quoting-pair : {a i : ℕ} → Quoting s a i → getD s i 0 ≡ 92 → Quoting s a (i + 2)
-  quoting-pair {a} {i} g e =
-      record { whole = g .whole; left = subst (λ (k : ℕ). Inside s k (g .whole .end)) (omega arith) (go (g .left) (g .whole .closed)) }
+  -- a backslash, and the octet behind it
+  quoted-pair : {a i : ℕ} (g : Quoting s a i) → At s i 92 → (suc i < length s) × Inside s (suc (suc i)) (g .whole .end)
+  quoted-pair {i = i} g e = go (g .left) (g .whole .closed)
     where
-      go : {j : ℕ} → Inside s i j → At s j 34 → Inside s (suc (suc i)) j
-      go inside-end q = absurd (omega (arith, q .is, e))
-      go (plain c r) q = absurd (true≢false (sym (eq-eqb (getD s i 0) 92 e) ∙ plain-not-backslash (getD s i 0) (c .is)))
-      go (pair b c r) q = r
+      go : {j : ℕ} → Inside s i j → At s j 34 → (suc i < length s) × Inside s (suc (suc i)) j
+      go inside-end q = absurd (omega (arith, q .is, e .is))
+      go (plain c r) q =
+          absurd (true≢false (sym (eq-eqb (getD s i 0) 92 (e .is)) ∙ plain-not-backslash (getD s i 0) (c .is)))
+      go (pair b c r) q = (c .inside, r)
+
+  pub pair-inside : {a i j : ℕ} → Quoting s a i → At s i 92 → j ≡ i + 1 → j < length s
+  pair-inside g e k = omega (arith, quoted-pair g e .0)
+
+  pub quoting-pair : {a i j k : ℕ} → Quoting s a i → At s i 92 → j ≡ i + 1 → k ≡ j + 1 → Quoting s a k
+  quoting-pair {i = i} {k = k} g e p q =
+      let m : suc (suc i) ≡ k = omega arith in
+      record { whole = g .whole; left = subst (λ (n : ℕ). Inside s n (g .whole .end)) m (quoted-pair g e .1) }
 
   -- an octet that stands for itself
-  pub quoting-on : {a i : ℕ} → Quoting s a i → (getD s i 0 ≡ 34 → ⊥) → (getD s i 0 ≡ 92 → ⊥) → Quoting s a (i + 1)
-  quoting-on {a} {i} g n m = record { whole = g .whole; left = rw add-one (go (g .left) (g .whole .closed)) }
+  pub quoting-on : {a i j : ℕ} {b c : Bool} → Quoting s a i → Looked s i 34 b → b ≡ false → Looked s i 92 c → c ≡ false
+      → j ≡ i + 1 → Quoting s a j
+  quoting-on {i = i} g l f m h k =
+      record { whole = g .whole; left = rw (k, add-one) (go (g .left) (g .whole .closed)) }
     where
       go : {j : ℕ} → Inside s i j → At s j 34 → Inside s (suc i) j
-      go inside-end q = absurd (n (q .is))
+      go inside-end q = absurd (not-seen l f q)
       go (plain c r) q = r
-      go (pair b c r) q = absurd (m (b .is))
+      go (pair b c r) q = absurd (not-seen m h b)

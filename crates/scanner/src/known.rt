@@ -7,7 +7,6 @@ ghost use Rattle.kinds.specs.Slots.{toParam};
 use crate::param::span;
 use cursor::Cursor;
 use kinds::ParamRecord;
-use kinds::Place;
 use kinds::Span;
 
 // A value's span and form, and the cursor behind it.
@@ -28,12 +27,12 @@ pub fn target_end(s: &[u8], from: Cursor) -> Cursor
     requires { ⌜ KnownTarget (now s) (from .at .0) ⌝ }
     ensures { λ r. ⌜ Target (now (s .entry)) (from .at .0) (r .at .0) × At (now (s .entry)) (r .at .0) 62 ⌝ }
 {
-    let mut i = from.at.0;
+    let mut c = from;
     loop {
-        if s[i] == b'>' {
-            return Cursor { at: Place(i) };
+        if c.sees(s, b'>') {
+            return c;
         }
-        i += 1;
+        c = c.past_octet(s);
     }
 }
 
@@ -42,16 +41,16 @@ pub fn inside_end(s: &[u8], from: Cursor) -> Cursor
     requires { ⌜ KnownQuoted (now s) (from .at .0) ⌝ }
     ensures { λ r. ⌜ Inside (now (s .entry)) (from .at .0) (r .at .0) × At (now (s .entry)) (r .at .0) 34 ⌝ }
 {
-    let mut i = from.at.0;
+    let mut c = from;
     loop {
-        if s[i] == b'"' {
-            return Cursor { at: Place(i) };
+        if c.sees(s, b'"') {
+            return c;
         }
-        if s[i] == b'\\' {
-            i += 2;
+        if c.sees(s, b'\\') {
+            c = c.past_octet(s).past_octet(s);
             continue;
         }
-        i += 1;
+        c = c.past_octet(s);
     }
 }
 

@@ -2,45 +2,64 @@
 use Prim.Native.Nat.{_-_}
 use native.Mathlib.Omega.{arith}
 use lib.ListN.{length}
-use Rattle.scanner.proofs.Ends.{Quoting, quoting, quoting-inside, quoted-all, quoting-pair, quoting-on}
+use borrow.Author.Needs.{needs}
+use Rattle.scanner.proofs.Ends.{Quoting, quoting, quoting-inside, quoted-all, pair-inside, quoting-pair, quoting-on}
 use Rattle.scanner.proofs.known.inside_end.Statement.{statement}
 use Rattle.scanner.proofs.known.inside_end.Tie as tie
 
 abbrev Inv-loop : tie.InvT-loop
-Inv-loop s i₀ i = Quoting s i₀ i
+Inv-loop s c₀ c = Quoting s (c₀ .at .0) (c .at .0)
 
 abbrev μ-loop : tie.MeasureT-loop
-μ-loop s i₀ i = length s - i
+μ-loop s c₀ c = length s - c .at .0
 
 loop-holds : tie.Need-loop-holds Inv-loop μ-loop
-loop-holds c = quoting (c .pre)
+loop-holds c = quoting (c .before .pre)
 
-shared-slice-read-if1 : tie.Need-shared-slice-read-if1 Inv-loop μ-loop
-shared-slice-read-if1 c = quoting-inside (c .before .loop .inv)
+sees-requires : tie.Need-sees-requires Inv-loop μ-loop
+sees-requires c κs = search needs
 
 returns : tie.Need-returns Inv-loop μ-loop
-returns c = quoted-all (c .before .before .loop .inv) (c .if1 .taken)
+returns c = quoted-all (c .before .before .loop .inv) ((c .before .sees .ensures .yes) (c .if1 .taken))
 
-shared-slice-read-if2 : tie.Need-shared-slice-read-if2 Inv-loop μ-loop
-shared-slice-read-if2 c = quoting-inside (c .before .before .before .loop .inv)
+sees-requires-2 : tie.Need-sees-requires-2 Inv-loop μ-loop
+sees-requires-2 c κs = search needs
 
-add-i : tie.Need-add-i Inv-loop μ-loop
-add-i c = omega (arith, quoting-inside (c .before .before .before .before .loop .inv))
+past-octet-requires : tie.Need-past-octet-requires Inv-loop μ-loop
+past-octet-requires c κs = quoting-inside (c .before .before .before .before .loop .inv)
+
+past-octet-requires-2 : tie.Need-past-octet-requires-2 Inv-loop μ-loop
+past-octet-requires-2 c κs =
+    pair-inside (c .before .before .before .before .before .loop .inv)
+    ((c .before .before .sees2 .ensures .yes) (c .before .if2 .taken)) (c .past-octet .ensures)
 
 loop-less : tie.Need-loop-less Inv-loop μ-loop
-loop-less c = omega (arith, quoting-inside (c .before .before .before .before .loop .inv))
+loop-less c =
+    omega (
+      arith,
+      c .past-octet2 .ensures,
+      c .before .past-octet .ensures,
+      quoting-inside (c .before .before .before .before .before .before .loop .inv),
+    )
 
 loop-again : tie.Need-loop-again Inv-loop μ-loop
-loop-again c = quoting-pair (c .before .before .before .before .loop .inv) (c .if2 .taken)
+loop-again c =
+    quoting-pair (c .before .before .before .before .before .before .loop .inv)
+    ((c .before .before .before .sees2 .ensures .yes) (c .before .before .if2 .taken)) (c .before .past-octet .ensures)
+    (c .past-octet2 .ensures)
 
-add-i-2 : tie.Need-add-i-2 Inv-loop μ-loop
-add-i-2 c = omega (arith, quoting-inside (c .before .before .before .before .loop .inv))
+past-octet-requires-3 : tie.Need-past-octet-requires-3 Inv-loop μ-loop
+past-octet-requires-3 c κs = quoting-inside (c .before .before .before .before .loop .inv)
 
 loop-less-2 : tie.Need-loop-less-2 Inv-loop μ-loop
-loop-less-2 c = omega (arith, quoting-inside (c .before .before .before .before .loop .inv))
+loop-less-2 c =
+    omega (arith, c .past-octet3 .ensures, quoting-inside (c .before .before .before .before .before .loop .inv))
 
 loop-again-2 : tie.Need-loop-again-2 Inv-loop μ-loop
-loop-again-2 c = quoting-on (c .before .before .before .before .loop .inv) (c .before .before .if1 .left) (c .if2 .left)
+loop-again-2 c =
+    quoting-on (c .before .before .before .before .before .loop .inv) (c .before .before .before .before .sees .ensures)
+    (c .before .before .before .if1 .left) (c .before .before .sees2 .ensures) (c .before .if2 .left)
+    (c .past-octet3 .ensures)
 
 pub inside-end-spec : {M : Type 1} → statement M
 inside-end-spec =
@@ -49,12 +68,13 @@ inside-end-spec =
     Inv-loop
     μ-loop
     loop-holds
-    shared-slice-read-if1
+    sees-requires
     returns
-    shared-slice-read-if2
-    add-i
+    sees-requires-2
+    past-octet-requires
+    past-octet-requires-2
     loop-less
     loop-again
-    add-i-2
+    past-octet-requires-3
     loop-less-2
     loop-again-2)

@@ -2,35 +2,38 @@
 use Prim.Native.Nat.{_-_}
 use native.Mathlib.Omega.{arith}
 use lib.ListN.{length}
+use borrow.Author.Needs.{needs}
 use Rattle.scanner.proofs.Ends.{Seeking, seek, seek-inside, sought, seek-on}
 use Rattle.scanner.proofs.known.target_end.Statement.{statement}
 use Rattle.scanner.proofs.known.target_end.Tie as tie
 
 abbrev Inv-loop : tie.InvT-loop
-Inv-loop s i₀ i = Seeking s i₀ i
+Inv-loop s c₀ c = Seeking s (c₀ .at .0) (c .at .0)
 
 abbrev μ-loop : tie.MeasureT-loop
-μ-loop s i₀ i = length s - i
+μ-loop s c₀ c = length s - c .at .0
 
 loop-holds : tie.Need-loop-holds Inv-loop μ-loop
-loop-holds c = seek (c .pre)
+loop-holds c = seek (c .before .pre)
 
-shared-slice-read-if1 : tie.Need-shared-slice-read-if1 Inv-loop μ-loop
-shared-slice-read-if1 c = seek-inside (c .before .loop .inv)
+sees-requires : tie.Need-sees-requires Inv-loop μ-loop
+sees-requires c κs = search needs
 
 returns : tie.Need-returns Inv-loop μ-loop
-returns c = sought (c .before .before .loop .inv) (c .if1 .taken)
+returns c = sought (c .before .before .loop .inv) ((c .before .sees .ensures .yes) (c .if1 .taken))
 
-add-i : tie.Need-add-i Inv-loop μ-loop
-add-i c = omega (arith, seek-inside (c .before .before .loop .inv))
+past-octet-requires : tie.Need-past-octet-requires Inv-loop μ-loop
+past-octet-requires c κs = seek-inside (c .before .before .loop .inv)
 
 loop-less : tie.Need-loop-less Inv-loop μ-loop
-loop-less c = omega (arith, seek-inside (c .before .before .loop .inv))
+loop-less c = omega (arith, c .past-octet .ensures, seek-inside (c .before .before .before .loop .inv))
 
 loop-again : tie.Need-loop-again Inv-loop μ-loop
-loop-again c = seek-on (c .before .before .loop .inv) (c .if1 .left)
+loop-again c =
+    seek-on (c .before .before .before .loop .inv) (c .before .before .sees .ensures) (c .before .if1 .left)
+    (c .past-octet .ensures)
 
 pub target-end-spec : {M : Type 1} → statement M
 target-end-spec =
     tie.close
-    (tie.spec Inv-loop μ-loop loop-holds shared-slice-read-if1 returns add-i loop-less loop-again)
+    (tie.spec Inv-loop μ-loop loop-holds sees-requires returns past-octet-requires loop-less loop-again)
