@@ -18,9 +18,8 @@ use Rattle.outcomes.specs.Write.{writtenForm}
 use Rattle.table_check.specs.Parts.{linkOf}
 use Rattle.tables.specs.Table.{Table, paramAt, paramsFrom, linksFrom, linksOf}
 use Rattle.tables.specs.Good.{GoodParam}
+use Rattle.tables.specs.Written.{writtenValue}
 use Rattle.tables.specs.Meaning.{valueOf}
-use Rattle.writer.specs.Shape.{IsShape}
-use Rattle.writer.specs.declared.shape.Shape.{Shape as Shaped}
 use Rattle.writer.specs.Forms.{paramForm, paramsForm, linkForm, parting, linksForm, GoodRun}
 use Rattle.writer.specs.Measured.{Measured}
 use Rattle.writer.proofs.Forming.{form-written, first-param, first-by-record, target-span}
@@ -43,7 +42,7 @@ module _ {s P : List ℕ} {total end n p : ℕ} (w : Measuring s P total end n p
   pub over-limit : limit < n → Measured total n
   over-limit l = record { exact = λ h. absurd (omega arith); over = λ h. omega (arith, w .whole) }
 
-  -- the parameter at p, and its value's shape
+  -- the parameter at p, and how many octets its value takes
   module _ (l : p < end) where
     pub in-slots : 5 * p + 5 ≤ length P
     in-slots = omega (arith, w .run .slots)
@@ -56,18 +55,18 @@ module _ {s P : List ℕ} {total end n p : ℕ} (w : Measuring s P total end n p
           ≡ length (paramForm s (toParam r)) + length (paramsForm s (paramsFrom P (suc p) (end - suc p)))
       left = rw (first-param P l, is) (length-append (paramForm s (paramAt P p)) (paramsForm s (paramsFrom P (suc p) (end - suc p))))
 
-      module _ {q : Shaped} (h : IsShape (valueOf s (toParam r)) q) where
+      module _ {q : ℕ} (h : q ≡ length (writtenValue (valueOf s (toParam r)))) where
         -- it adds too little to wrap
-        pub added : r .name .to .0 - r .name .from .0 + q .len + 3 ≤ 3 * limit + 5
-        added = omega (arith, good-here .name-span .inside, h .len, value-bound good-here, w .short)
+        pub added : r .name .to .0 - r .name .from .0 + q + 3 ≤ 3 * limit + 5
+        added = omega (arith, good-here .name-span .inside, h, value-bound good-here, w .short)
 
-        pub measure-more : Measuring s P total end (n + (r .name .to .0 - r .name .from .0 + q .len + 3)) (p + 1)
+        pub measure-more : Measuring s P total end (n + (r .name .to .0 - r .name .from .0 + q + 3)) (p + 1)
         measure-more =
             rw (add-one p)
             (record {
               run = record { ordered = l; slots = w .run .slots; good = λ j m k. w .run .good j (omega arith) k };
               short = w .short;
-              whole = omega (arith, w .whole, left, param-length good-here, h .len);
+              whole = omega (arith, w .whole, left, param-length good-here, h);
             })
 
 -- ---- over links: the loop stands at number i, and has counted n octets, or more than the limit

@@ -1,5 +1,5 @@
 -- A loop that measures what the part from a to e means, as it stands in a quoted string: it stands at place k, has counted n octets,
--- and knows whether those before k are all token octets. At the end it knows the value's shape.
+-- and knows whether those before k are all token octets. At the end it knows how many octets the value takes.
 use Prim.Native.Nat.{ℕ, suc, _+_, _-_, _*_, _≤_, _<_}
 use native.Mathlib.Omega.{arith}
 use native.Mathlib.Numerals.{add-one}
@@ -19,11 +19,10 @@ use Rattle.tables.proofs.Texts.{run-le, run-text}
 use Rattle.values.specs.Rest.{rest, Meant}
 use Rattle.values.proofs.Meant.{none-left}
 use Rattle.values.proofs.Values.{value-meant}
-use Rattle.writer.specs.Shape.{IsShape, shapeFor, escapedLen}
-use Rattle.writer.specs.declared.shape.Shape.{Shape as Shaped}
+use Rattle.writer.specs.Shape.{lenFor, escapedLen}
 use Rattle.writer.proofs.Escaping.{escaped-length, escaped-bounds, escape-token}
 
--- ---- the shape of a value, by its length with backslashes and by whether its octets are all token octets
+-- ---- the length of a value, by its length with backslashes and by whether its octets are all token octets
 
 quoted-length : (v : List ℕ) → isTokenText v ≡ false → length (escape v) + 2 ≡ length (writtenValue v)
 unfolding writtenValue
@@ -33,16 +32,16 @@ bare-length : (v : List ℕ) → isTokenText v ≡ true → all isToken v ≡ tr
 unfolding writtenValue
 bare-length v h t = rw (h, escape-token v t)
 
-shaped : (v : List ℕ) → IsShape v (shapeFor (length (escape v)) (all isToken v))
-shaped [] = record { bare = refl; len = quoted-length [] refl }
+shaped : (v : List ℕ) → lenFor (length (escape v)) (all isToken v) ≡ length (writtenValue v)
+shaped [] = quoted-length [] refl
 shaped (c ∷ v) = go (all isToken (c ∷ v)) refl
   where
     some-octets : 0 < length (escape (c ∷ v))
     some-octets = omega (arith, escaped-length c (escape v), escaped-bounds c)
 
-    go : (b : Bool) → all isToken (c ∷ v) ≡ b → IsShape (c ∷ v) (shapeFor (length (escape (c ∷ v))) (all isToken (c ∷ v)))
-    go true e = rw (lt-ltb 0 (length (escape (c ∷ v))) some-octets, e) (record { bare = sym e; len = bare-length (c ∷ v) e e })
-    go false e = rw (lt-ltb 0 (length (escape (c ∷ v))) some-octets, e) (record { bare = sym e; len = quoted-length (c ∷ v) e })
+    go : (b : Bool) → all isToken (c ∷ v) ≡ b → lenFor (length (escape (c ∷ v))) (all isToken (c ∷ v)) ≡ length (writtenValue (c ∷ v))
+    go true e = rw (lt-ltb 0 (length (escape (c ∷ v))) some-octets, e) (bare-length (c ∷ v) e e)
+    go false e = rw (lt-ltb 0 (length (escape (c ∷ v))) some-octets, e) (quoted-length (c ∷ v) e)
 
 -- ---- the loop
 
@@ -62,17 +61,17 @@ and-both false b d = refl
 
 module _ {s : List ℕ} {e a n : ℕ} {tokens : Bool} {k : ℕ} (w : Shaping s e a n tokens k) where
   -- nothing is left
-  ended : rest s e k ≡ [] → {r : Shaped} → r ≡ shapeFor n tokens → IsShape (rest s e a) r
+  ended : rest s e k ≡ [] → {r : ℕ} → r ≡ lenFor n tokens → r ≡ length (writtenValue (rest s e a))
   ended h {r} is =
       let same-length : n ≡ length (escape (rest s e a)) = omega (arith, w .octets, ap (λ v. length (escape v)) h) in
       let same-tokens : tokens ≡ all isToken (rest s e a) = sym (w .all-tokens ∙ rw h (and-none tokens)) in
-      rw (is, same-length, same-tokens) (shaped (rest s e a))
+      is ∙ rw (same-length, same-tokens) (shaped (rest s e a))
 
-  pub shape-end : e ≤ k → {r : Shaped} → r ≡ shapeFor n tokens → IsShape (rest s e a) r
+  pub shape-end : e ≤ k → {r : ℕ} → r ≡ lenFor n tokens → r ≡ length (writtenValue (rest s e a))
   shape-end l = ended (none-left s l)
 
   module _ {p : ℕ} (m : Meant s e k p) where
-    pub shape-none : e ≤ p → {r : Shaped} → r ≡ shapeFor n tokens → IsShape (rest s e a) r
+    pub shape-none : e ≤ p → {r : ℕ} → r ≡ lenFor n tokens → r ≡ length (writtenValue (rest s e a))
     shape-none l = ended (m .none l)
 
     pub shape-more : p < e → {x : ℕ} {t : Bool} → x ≡ escapedLen (getD s p 0) → t ≡ isToken (getD s p 0)
@@ -102,27 +101,34 @@ token-bare : (v : List ℕ) → 0 < length v → all isToken v ≡ true → isTo
 token-bare [] l h = absurd (omega arith)
 token-bare (c ∷ v) l h = h
 
-bare-shape : (v : List ℕ) → 0 < length v → all isToken v ≡ true → {n : ℕ} → n ≡ length v → IsShape v (record { bare = true; len = n })
+bare-len : (v : List ℕ) → 0 < length v → all isToken v ≡ true → length v ≡ length (writtenValue v)
 unfolding writtenValue
-bare-shape v l h e = record { bare = sym (token-bare v l h); len = rw (token-bare v l h) e }
+bare-len v l h = rw (token-bare v l h)
+
+-- the value stands bare, and takes the octets of its span
+pub record IsToken (s : List ℕ) (p : Param) : Type 0 where
+  pub bare : true ≡ isTokenText (valueOf s p)
+  pub len : p .valueTo - p .valueFrom ≡ length (writtenValue (valueOf s p))
 
 module _ {s : List ℕ} {p : Param} (g : GoodParam s p) where
-  pub token-shape : p .form ≡ 1 → IsShape (valueOf s p) (record { bare = true; len = p .valueTo - p .valueFrom })
+  pub token-shape : p .form ≡ 1 → IsToken s p
   unfolding valueOf
   token-shape f = go (g .value)
     where
-      go : GoodValue s p → IsShape (valueOf s p) (record { bare = true; len = p .valueTo - p .valueFrom })
+      go : GoodValue s p → IsToken s p
       go (no-value f′ a b) = absurd (omega (arith, f, f′))
       go (quoted-value f′ q) = absurd (omega (arith, f, f′))
       go (token-value f′ t) =
+          let v = slice (p .valueFrom) (p .valueTo) s in
           let n = length-slice (p .valueFrom) (p .valueTo) s (g .value-span .inside) in
-          rw f
-          (bare-shape (slice (p .valueFrom) (p .valueTo) s) (omega (arith, n, run-le s (t .rest)))
-          (run-text s (g .value-span .inside) (run-more (t .first) (t .rest))) (sym n))
-
-  pub token-bare-value : p .form ≡ 1 → true ≡ isTokenText (valueOf s p)
-  token-bare-value f = token-shape f .bare
+          let some : 0 < length v = omega (arith, n, run-le s (t .rest)) in
+          let tokens = run-text s (g .value-span .inside) (run-more (t .first) (t .rest)) in
+          let is : valueOf s p ≡ v = rw f in
+          record {
+            bare = sym (ap isTokenText is ∙ token-bare v some tokens);
+            len = sym n ∙ bare-len v some tokens ∙ ap (λ x. length (writtenValue x)) (sym is);
+          }
 
   -- of any other
-  pub meant-shape : {r : Shaped} → IsShape (rest s (p .valueTo) (p .valueFrom)) r → IsShape (valueOf s p) r
+  pub meant-shape : {r : ℕ} → r ≡ length (writtenValue (rest s (p .valueTo) (p .valueFrom))) → r ≡ length (writtenValue (valueOf s p))
   meant-shape h = rw (value-meant g) h

@@ -9,7 +9,7 @@ ghost use Rattle.outcomes.specs.Write.{writtenForm};
 ghost use Rattle.tables.specs.Table.{paramsFrom, tableOf};
 ghost use Rattle.writer.specs.Measured.{Measured};
 ghost use Rattle.writer.specs.Forms.{paramsForm, parting, GoodRun};
-use crate::shape::value_shape;
+use crate::shape::value_len;
 use kinds::LinkNumber;
 use kinds::ParamNumber;
 
@@ -29,7 +29,7 @@ fn params_len(
     while p.0 < end.0 && n <= 8192 {
         let param = kinds::param_at(params, p);
         let name = param.name.to.0 - param.name.from.0;
-        n += name + value_shape(text, param).len + 3;
+        n += name + value_len(text, param) + 3;
         p = p.next();
     }
     n

@@ -6,30 +6,19 @@ ghost use Rattle.kinds.specs.Slots.{toParam};
 ghost use Rattle.outcomes.specs.Number.{limit};
 ghost use Rattle.tables.specs.Good.{GoodParam};
 ghost use Rattle.tables.specs.Meaning.{valueOf};
-ghost use Rattle.tables.specs.Written.{isTokenText};
+ghost use Rattle.tables.specs.Written.{isTokenText, writtenValue};
 ghost use Rattle.values.specs.Rest.{rest};
-ghost use Rattle.writer.specs.Shape.{IsShape, shapeFor, escapedLen};
+ghost use Rattle.writer.specs.Shape.{escapedLen, lenFor};
 use kinds::ParamRecord;
 use octets::sets::is_token;
 use values::meaning::meant_at;
 
-pub struct Shape {
-    pub bare: bool,
-    pub len: usize,
-}
-
-// The shape of a value that has n octets when it is escaped, and whose octets are all token octets or not.
-fn shape_for(n: usize, tokens: bool) -> Shape
+// How many octets a value takes that has n when it is escaped, and whose octets are all token octets or not.
+fn len_for(n: usize, tokens: bool) -> usize
     requires { ⌜ n ≤ 2 * limit ⌝ }
-    ensures { λ r. ⌜ r ≡ shapeFor n tokens ⌝ }
+    ensures { λ r. ⌜ r ≡ lenFor n tokens ⌝ }
 {
-    if (n > 0) & tokens {
-        return Shape { bare: true, len: n };
-    }
-    Shape {
-        bare: false,
-        len: n + 2,
-    }
+    if (n > 0) & tokens { n } else { n + 2 }
 }
 
 // How many octets an octet takes in a quoted string.
@@ -39,10 +28,10 @@ fn escaped_len(c: u8) -> usize
     if (c == b'"') | (c == b'\\') { 2 } else { 1 }
 }
 
-// The shape of what the part from a to e means.
-fn shape_of(s: &[u8], a: usize, e: usize) -> Shape
+// How many octets what the part from a to e means takes.
+fn meant_len(s: &[u8], a: usize, e: usize) -> usize
     requires { ⌜ (a ≤ e) × (e ≤ length (now s)) × (length (now s) ≤ limit) ⌝ }
-    ensures { λ r. ⌜ IsShape (rest (now (s .entry)) e a) r ⌝ }
+    ensures { λ r. ⌜ r ≡ length (writtenValue (rest (now (s .entry)) e a)) ⌝ }
 {
     let mut n = 0;
     let mut tokens = true;
@@ -50,30 +39,27 @@ fn shape_of(s: &[u8], a: usize, e: usize) -> Shape
     while k < e {
         let p = meant_at(s, k, e);
         if p >= e {
-            return shape_for(n, tokens);
+            return len_for(n, tokens);
         }
         let c = s[p];
         n += escaped_len(c);
         tokens = tokens & is_token(c);
         k = p + 1;
     }
-    shape_for(n, tokens)
+    len_for(n, tokens)
 }
 
-// The shape of a parameter's value. A token stands bare as it is, which need not be looked at again.
-pub fn value_shape(text: &[u8], p: ParamRecord) -> Shape
+// How many octets a parameter's value takes. A token takes as many as it has, and isn't looked at again.
+pub fn value_len(text: &[u8], p: ParamRecord) -> usize
     requires { ⌜ GoodParam (now text) (toParam p) × (length (now text) ≤ limit) ⌝ }
-    ensures { λ r. ⌜ IsShape (valueOf (now (text .entry)) (toParam p)) r ⌝ }
+    ensures { λ r. ⌜ r ≡ length (writtenValue (valueOf (now (text .entry)) (toParam p))) ⌝ }
 {
     let a = p.value.from.0;
     let e = p.value.to.0;
     if p.form == 1 {
-        return Shape {
-            bare: true,
-            len: e - a,
-        };
+        return e - a;
     }
-    shape_of(text, a, e)
+    meant_len(text, a, e)
 }
 
 // Whether what the part from a to e means is a token. The first octet that isn't a token's decides.

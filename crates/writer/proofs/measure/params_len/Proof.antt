@@ -33,58 +33,58 @@ sub-name c =
     let if1′ = c .before .before .before .if1 in
     good-here (loop′ .inv) (if1′ .taken) (c .before .param-at .ensures) .name-span .ordered
 
-value-shape-requires : tie.Need-value-shape-requires Inv-loop μ-loop
-value-shape-requires c κs =
+value-len-requires : tie.Need-value-len-requires Inv-loop μ-loop
+value-len-requires c κs =
     let loop′ = c .before .before .before .before .before .before .loop in
     let if1′ = c .before .before .before .if1 in
     (good-here (loop′ .inv) (if1′ .taken) (c .before .param-at .ensures), loop′ .inv .short)
 
 add-n : tie.Need-add-n Inv-loop μ-loop
 add-n c =
-    let loop′ = c .before .before .before .before .before .before .before .before .loop in
-    let if1′ = c .before .before .before .before .before .if1 in
-    let param-at′ = c .before .before .before .param-at in
-    omega (arith, added (loop′ .inv) (if1′ .taken) (param-at′ .ensures) (c .before .value-shape .ensures))
+    let loop′ = c .before .before .before .before .before .before .before .loop in
+    let if1′ = c .before .before .before .before .if1 in
+    let param-at′ = c .before .before .param-at in
+    omega (arith, added (loop′ .inv) (if1′ .taken) (param-at′ .ensures) (c .value-len .ensures))
 
 add-n-2 : tie.Need-add-n-2 Inv-loop μ-loop
 add-n-2 c =
-    let loop′ = c .before .before .before .before .before .before .before .before .loop in
-    let if1′ = c .before .before .before .before .before .if1 in
-    let param-at′ = c .before .before .before .param-at in
-    omega (arith, added (loop′ .inv) (if1′ .taken) (param-at′ .ensures) (c .before .value-shape .ensures))
+    let loop′ = c .before .before .before .before .before .before .before .loop in
+    let if1′ = c .before .before .before .before .if1 in
+    let param-at′ = c .before .before .param-at in
+    omega (arith, added (loop′ .inv) (if1′ .taken) (param-at′ .ensures) (c .value-len .ensures))
 
 add-n-3 : tie.Need-add-n-3 Inv-loop μ-loop
 add-n-3 c =
-    let loop′ = c .before .before .before .before .before .before .before .before .loop in
-    let if1′ = c .before .before .before .before .before .if1 in
-    let if2′ = c .before .before .before .before .if2 in
-    let param-at′ = c .before .before .before .param-at in
+    let loop′ = c .before .before .before .before .before .before .before .loop in
+    let if1′ = c .before .before .before .before .if1 in
+    let if2′ = c .before .before .before .if2 in
+    let param-at′ = c .before .before .param-at in
     omega (
       arith,
-      added (loop′ .inv) (if1′ .taken) (param-at′ .ensures) (c .before .value-shape .ensures),
+      added (loop′ .inv) (if1′ .taken) (param-at′ .ensures) (c .value-len .ensures),
       leb-true (loop′ .n) 8192
           (if2′ .taken),
     )
 
 next-requires : tie.Need-next-requires Inv-loop μ-loop
 next-requires c κs =
-    let start = c .before .before .before .before .before .before .before .before .before .before .before in
-    let loop′ = c .before .before .before .before .before .before .before .before .loop in
-    let if1′ = c .before .before .before .before .before .if1 in
+    let start = c .before .before .before .before .before .before .before .before .before .before in
+    let loop′ = c .before .before .before .before .before .before .before .loop in
+    let if1′ = c .before .before .before .before .if1 in
     omega (arith, if1′ .taken, loop′ .inv .run .slots, start .good .1 .0 .0)
 
 loop-less : tie.Need-loop-less Inv-loop μ-loop
 loop-less c =
-    let if1′ = c .before .before .before .before .before .before .if1 in
+    let if1′ = c .before .before .before .before .before .if1 in
     omega (arith, c .next .ensures, if1′ .taken)
 
 loop-again : tie.Need-loop-again Inv-loop μ-loop
 loop-again c =
-    let loop′ = c .before .before .before .before .before .before .before .before .before .loop in
-    let if1′ = c .before .before .before .before .before .before .if1 in
-    let param-at′ = c .before .before .before .before .param-at in
-    let value-shape′ = c .before .before .value-shape in
-    rw (c .next .ensures) (measure-more (loop′ .inv) (if1′ .taken) (param-at′ .ensures) (value-shape′ .ensures))
+    let loop′ = c .before .before .before .before .before .before .before .before .loop in
+    let if1′ = c .before .before .before .before .before .if1 in
+    let param-at′ = c .before .before .before .param-at in
+    let value-len′ = c .before .value-len in
+    rw (c .next .ensures) (measure-more (loop′ .inv) (if1′ .taken) (param-at′ .ensures) (value-len′ .ensures))
 
 returns : tie.Need-returns Inv-loop μ-loop
 returns c =
@@ -105,7 +105,7 @@ params-len-spec =
     loop-holds
     param-at-requires
     sub-name
-    value-shape-requires
+    value-len-requires
     add-n
     add-n-2
     add-n-3

@@ -2,13 +2,13 @@
 use mathlib.Core.Path.{sym, ap, _∙_}
 use Rattle.tables.specs.Written.{isTokenText}
 use Rattle.values.proofs.Values.{value-meant}
-use Rattle.writer.proofs.Shaping.{token-bare-value}
+use Rattle.writer.proofs.Shaping.{token-shape}
 use borrow.Author.Needs.{needs}
 use Rattle.writer.proofs.shape.is_bare.Statement.{statement}
 use Rattle.writer.proofs.shape.is_bare.Tie as tie
 
 returns : tie.Need-returns
-returns c = token-bare-value (c .before .before .before .pre) (c .if1 .taken)
+returns c = token-shape (c .before .before .before .pre) (c .if1 .taken) .bare
 
 means-token-requires : tie.Need-means-token-requires
 means-token-requires c κs = (c .before .before .before .pre .value-span .ordered, c .before .before .before .pre .value-span .inside)

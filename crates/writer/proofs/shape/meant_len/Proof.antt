@@ -6,8 +6,8 @@ use lib.ListN.{getD}
 use borrow.Author.Needs.{needs}
 use Rattle.writer.proofs.Escaping.{at-most-two}
 use Rattle.writer.proofs.Shaping.{Shaping, shape-more, shape-none, shape-end}
-use Rattle.writer.proofs.shape.shape_of.Statement.{statement}
-use Rattle.writer.proofs.shape.shape_of.Tie as tie
+use Rattle.writer.proofs.shape.meant_len.Statement.{statement}
+use Rattle.writer.proofs.shape.meant_len.Tie as tie
 
 abbrev Inv-loop : tie.InvT-loop
 Inv-loop s a e n₀ tokens₀ k₀ n tokens k = Shaping s e a n tokens k
@@ -21,13 +21,13 @@ loop-holds c = record { inside = c .before .pre .0; bound = omega arith; octets 
 meant-at-requires : tie.Need-meant-at-requires Inv-loop μ-loop
 meant-at-requires c κs = omega arith
 
-shape-for-requires : tie.Need-shape-for-requires Inv-loop μ-loop
-shape-for-requires c κs = omega arith
+len-for-requires : tie.Need-len-for-requires Inv-loop μ-loop
+len-for-requires c κs = omega arith
 
 returns : tie.Need-returns Inv-loop μ-loop
 returns c =
     shape-none (c .before .before .before .before .loop .inv) (c .before .before .meant-at .ensures) (c .before .if1 .taken)
-    (c .shape-for .ensures)
+    (c .len-for .ensures)
 
 shared-slice-read-c : tie.Need-shared-slice-read-c Inv-loop μ-loop
 shared-slice-read-c c = omega arith
@@ -56,21 +56,21 @@ loop-again c =
     shape-more (turn .before .before .loop .inv) (turn .meant-at .ensures) (c .before .before .before .if1 .left)
     (c .before .escaped-len .ensures) (c .is-token .ensures)
 
-shape-for-requires-2 : tie.Need-shape-for-requires-2 Inv-loop μ-loop
-shape-for-requires-2 c κs = omega arith
+len-for-requires-2 : tie.Need-len-for-requires-2 Inv-loop μ-loop
+len-for-requires-2 c κs = omega arith
 
 returns-2 : tie.Need-returns-2 Inv-loop μ-loop
-returns-2 c = shape-end (c .before .before .loop .inv) (c .before .loop-test .left) (c .shape-for2 .ensures)
+returns-2 c = shape-end (c .before .before .loop .inv) (c .before .loop-test .left) (c .len-for2 .ensures)
 
-pub shape-of-spec : {M : Type 1} → statement M
-shape-of-spec =
+pub meant-len-spec : {M : Type 1} → statement M
+meant-len-spec =
     tie.close
     (tie.spec
     Inv-loop
     μ-loop
     loop-holds
     meant-at-requires
-    shape-for-requires
+    len-for-requires
     returns
     shared-slice-read-c
     escaped-len-requires
@@ -79,5 +79,5 @@ shape-of-spec =
     add-k
     loop-less
     loop-again
-    shape-for-requires-2
+    len-for-requires-2
     returns-2)
