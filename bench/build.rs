@@ -1,7 +1,6 @@
-//! Compiles the table loop and links the library's archive, which stands beside its header.
+//! Compiles the table loop.
 
 use std::env;
-use std::path::Path;
 use std::process::Command;
 
 fn run(program: &str, arguments: &[&str]) {
@@ -20,14 +19,7 @@ fn main() {
     run("gcc", &["-O3", "-Wall", "-c", &source, "-o", &object]);
     run("ar", &["rcs", &format!("{out}/libtable_loop.a"), &object]);
 
-    let library = Path::new(&here).join("../include");
     println!("cargo:rustc-link-search=native={out}");
     println!("cargo:rustc-link-lib=static=table_loop");
-    println!("cargo:rustc-link-search=native={}", library.display());
-    println!("cargo:rustc-link-lib=static=capi");
     println!("cargo:rerun-if-changed={source}");
-    println!(
-        "cargo:rerun-if-changed={}",
-        library.join("libcapi.a").display()
-    );
 }

@@ -1,77 +1,7 @@
-//! The library's entries, as its C header declares them.
+//! The library's entries, by the crate over its C interface, and the table loop.
 
+use capstanbar::ffi::{self, RawTable, ReadAnswer};
 use std::hint::black_box;
-
-#[repr(C)]
-pub struct ReadAnswer {
-    pub number: usize,
-    pub place: usize,
-    pub links: usize,
-    pub params: usize,
-}
-
-/// The number, and the link found or the length written.
-#[repr(C)]
-pub struct Answer {
-    pub number: usize,
-    pub found: usize,
-}
-
-impl Answer {
-    pub fn pair(&self) -> (usize, usize) {
-        (self.number, self.found)
-    }
-}
-
-extern "C" {
-    fn capstan_read(
-        header: *const u8,
-        header_len: usize,
-        links: *mut usize,
-        link_slots: usize,
-        params: *mut usize,
-        param_slots: usize,
-    ) -> ReadAnswer;
-    fn capstan_search(
-        text: *const u8,
-        text_len: usize,
-        links: *const usize,
-        link_slots: usize,
-        params: *const usize,
-        param_slots: usize,
-        link_count: usize,
-        param_count: usize,
-        relation: *const u8,
-        relation_len: usize,
-    ) -> Answer;
-    fn capstan_value(
-        text: *const u8,
-        text_len: usize,
-        links: *const usize,
-        link_slots: usize,
-        params: *const usize,
-        param_slots: usize,
-        link_count: usize,
-        param_count: usize,
-        link: usize,
-        place: usize,
-        out: *mut u8,
-        out_len: usize,
-    ) -> Answer;
-    fn capstan_write(
-        text: *const u8,
-        text_len: usize,
-        links: *const usize,
-        link_slots: usize,
-        params: *const usize,
-        param_slots: usize,
-        link_count: usize,
-        param_count: usize,
-        out: *mut u8,
-        out_len: usize,
-    ) -> Answer;
-    fn table_loop(text: *const u8, length: usize) -> usize;
-}
 
 /// A text with its tables.
 pub struct Table {
@@ -82,74 +12,45 @@ pub struct Table {
     pub param_count: usize,
 }
 
-// SAFETY, for each call: every pointer goes with the length of the slice that it is taken from, and the entries have no precondition.
+impl Table {
+    fn raw(&self) -> RawTable<'_> {
+        RawTable {
+            text: black_box(&self.text),
+            links: &self.links,
+            params: &self.params,
+            link_count: self.link_count,
+            param_count: self.param_count,
+        }
+    }
+}
 
 pub fn read(header: &[u8], links: &mut [usize], params: &mut [usize]) -> ReadAnswer {
-    unsafe {
-        capstan_read(
-            black_box(header.as_ptr()),
-            header.len(),
-            links.as_mut_ptr(),
-            links.len(),
-            params.as_mut_ptr(),
-            params.len(),
-        )
-    }
+    ffi::read(black_box(header), links, params)
 }
 
-pub fn search(table: &Table, relation: &[u8]) -> Answer {
-    unsafe {
-        capstan_search(
-            black_box(table.text.as_ptr()),
-            table.text.len(),
-            table.links.as_ptr(),
-            table.links.len(),
-            table.params.as_ptr(),
-            table.params.len(),
-            table.link_count,
-            table.param_count,
-            relation.as_ptr(),
-            relation.len(),
-        )
-    }
+/// The number, and the link found.
+pub fn search(table: &Table, relation: &[u8]) -> (usize, usize) {
+    let answer = ffi::search(table.raw(), relation);
+    (answer.number, answer.link)
 }
 
-pub fn value(table: &Table, link: usize, place: usize, out: &mut [u8]) -> Answer {
-    unsafe {
-        capstan_value(
-            black_box(table.text.as_ptr()),
-            table.text.len(),
-            table.links.as_ptr(),
-            table.links.len(),
-            table.params.as_ptr(),
-            table.params.len(),
-            table.link_count,
-            table.param_count,
-            link,
-            place,
-            out.as_mut_ptr(),
-            out.len(),
-        )
-    }
+/// The number, and the length.
+pub fn value(table: &Table, link: usize, place: usize, out: &mut [u8]) -> (usize, usize) {
+    let answer = ffi::value(table.raw(), link, place, out);
+    (answer.number, answer.length)
 }
 
-pub fn write(table: &Table, out: &mut [u8]) -> Answer {
-    unsafe {
-        capstan_write(
-            black_box(table.text.as_ptr()),
-            table.text.len(),
-            table.links.as_ptr(),
-            table.links.len(),
-            table.params.as_ptr(),
-            table.params.len(),
-            table.link_count,
-            table.param_count,
-            out.as_mut_ptr(),
-            out.len(),
-        )
-    }
+/// The number, and the length.
+pub fn write(table: &Table, out: &mut [u8]) -> (usize, usize) {
+    let answer = ffi::write(table.raw(), out);
+    (answer.number, answer.length)
+}
+
+extern "C" {
+    fn table_loop(text: *const u8, length: usize) -> usize;
 }
 
 pub fn commas(text: &[u8]) -> usize {
+    // SAFETY: the loop reads as many octets as it is told, and the slice has them.
     unsafe { table_loop(black_box(text.as_ptr()), text.len()) }
 }

@@ -134,7 +134,7 @@ fn read(name: &str, headers: &[&[u8]]) {
 
 fn search(sample: &Sample, t: &Table) {
     let query = sample.relation;
-    let this = library::search(t, query).pair();
+    let this = library::search(t, query);
     assert_eq!(this, (0, t.link_count - 1), "{}", sample.name);
     assert_eq!(this, independent::search(t, query), "{}", sample.name);
     let this = || library::search(t, query);
@@ -145,7 +145,7 @@ fn search(sample: &Sample, t: &Table) {
 fn value(sample: &Sample, t: &Table) {
     let (link, place) = sample.value;
     let (mut out, mut out2) = ([0; OUT], [0; OUT]);
-    let this = library::value(t, link, place, &mut out).pair();
+    let this = library::value(t, link, place, &mut out);
     let other = independent::value(t, link, place, &mut out2);
     assert_eq!((this, out), (other, out2), "{}", sample.name);
     let this = || library::value(t, link, place, &mut out);
@@ -156,7 +156,7 @@ fn value(sample: &Sample, t: &Table) {
 /// The octets are those written.
 fn write(name: &str, t: &Table) {
     let (mut out, mut out2) = ([0; OUT], [0; OUT]);
-    let this = library::write(t, &mut out).pair();
+    let this = library::write(t, &mut out);
     let other = independent::write(t, &mut out2);
     assert_eq!((this, out), (other, out2), "{name}");
     assert_eq!(this.0, 0, "{name}");
