@@ -20,7 +20,7 @@ pub fn samples() -> Vec<Sample> {
     vec![
         sample(
             "paginated",
-            paginated("https://api.example.org/catalogue/18/items", 97),
+            paginated("https://api.example.org/v2/catalogue/18/items", 1997),
             (3, 0),
         ),
         sample("60 links", sixty_links(), (59, 1)),
@@ -76,7 +76,7 @@ fn many_params() -> Vec<u8> {
 
 /// Links, the last of which is broken off in its value.
 pub fn malformed() -> Vec<u8> {
-    let pages = paginated("https://api.example.org/catalogue/18/items", 97);
+    let pages = paginated("https://api.example.org/v2/catalogue/18/items", 1997);
     let mut header = [&pages[..], &pages, &pages].join(&b", "[..]);
     header.pop();
     header
