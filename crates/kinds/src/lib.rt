@@ -33,6 +33,13 @@ impl LinkNumber {
 }
 
 impl ParamNumber {
+    // The number of a table's first parameter.
+    pub fn first() -> ParamNumber
+        ensures { λ r. ⌜ r .0 ≡ 0 ⌝ }
+    {
+        ParamNumber(0)
+    }
+
     // The number of the parameter behind this one.
     pub fn next(self) -> ParamNumber
         requires { ⌜ self .0 + 1 < 2 ^ 64 ⌝ }

@@ -25,8 +25,9 @@ pub record Left (L P : List ℕ) (n m i : ℕ) : Type 0 where
   pub number : i + left ≡ n
   pub follows : Follows L i left from m
 
-pub begin : {L P : List ℕ} {n m : ℕ} → Held L P n m → Left L P n m 0
-begin {L} {P} {n} h = record { held = h; left = n; from = 0; number = omega arith; follows = h .follows }
+pub begin : {L P : List ℕ} {n m i : ℕ} → Held L P n m → i ≡ 0 → Left L P n m i
+begin {L} {P} {n} {m} h e =
+    subst (Left L P n m) (sym e) (record { held = h; left = n; from = 0; number = omega arith; follows = h .follows })
 
 -- the parameters of the links that are left end at the last
 ends : (L : List ℕ) (i n : ℕ) {from m : ℕ} → Follows L i n from m → from ≤ m
@@ -69,5 +70,9 @@ read-held (reads a b c d) e =
     let g = read-good _ _ _ _ b .good in
     record { link-room = g .link-room; param-room = g .param-room; follows = g .follows }
 
+-- reading's answer, known to be one of its cases
+pub handed-on : {h L P : List ℕ} {r x : ReadAnswer} (L′ P′ : List ℕ) → Read h L P (readOut r L′ P′) → r ≡ x → Read h L P (readOut x L′ P′)
+handed-on {h} {L} {P} L′ P′ d e = subst (λ (y : ReadAnswer). Read h L P (readOut y L′ P′)) e d
+
 pub done-held : {h L P L′ P′ : List ℕ} {r : ReadAnswer} {n m : ℕ} → Read h L P (readOut r L′ P′) → r ≡ Done n m → Held L′ P′ n m
-done-held {h} {L} {P} {L′} {P′} d e = read-held (subst (λ (x : ReadAnswer). Read h L P (readOut x L′ P′)) e d) refl
+done-held {L′ = L′} {P′} d e = read-held (handed-on L′ P′ d e) refl

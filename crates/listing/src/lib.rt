@@ -1,6 +1,8 @@
 // Lists a header on standard output: its links and their parameters, or why it is refused. Lines are parted by tabs and ended by LF.
 ghost use Prim.Native.Nat.{_+_, _*_, _≤_};
 ghost use lib.ListN.{length};
+ghost use Rattle.outcomes.specs.Read.{Read};
+ghost use Rattle.reader.specs.Answer.{readOut};
 ghost use Rattle.listing.specs.Held.{Held};
 use kinds::LinkNumber;
 use kinds::LinkRecord;
@@ -52,7 +54,7 @@ fn put_params(params: &[usize], first: ParamNumber, count: usize)
 {
     let mut k = 0;
     while k < count {
-        let n = ParamNumber(first.0 + k);
+        let n = first.plus(k);
         put_param(n, kinds::param_at(params, n));
         k += 1;
     }
@@ -63,12 +65,12 @@ fn put_table(links: &[usize], params: &[usize], link_count: usize, param_count: 
     requires { ⌜ Held (now links) (now params) «link_count» «param_count» ⌝ }
 {
     put_counts(link_count, param_count);
-    let mut i = 0;
-    while i < link_count {
-        let l = kinds::link_at(links, LinkNumber(i));
-        put_link(LinkNumber(i), l);
+    let mut i = LinkNumber::first();
+    while i.0 < link_count {
+        let l = kinds::link_at(links, i);
+        put_link(i, l);
         put_params(params, l.first, l.count);
-        i += 1;
+        i = i.next();
     }
 }
 
@@ -80,7 +82,9 @@ fn put_refusal(number: usize, place: usize) {
 }
 
 // Reads the header into the lent tables, lists the answer, and hands it on.
-pub fn list(header: &[u8], links: &mut [usize], params: &mut [usize]) -> ReadAnswer {
+pub fn list(header: &[u8], links: &mut [usize], params: &mut [usize]) -> ReadAnswer
+    ensures { λ r. ⌜ Read (now (header .entry)) (now (links .entry)) (now (params .entry)) (readOut r (now (links .exit)) (now (params .exit))) ⌝ }
+{
     let answer = reader::read(header, links, params);
     match answer {
         ReadAnswer::Done(n, m) => put_table(links, params, n, m),

@@ -107,13 +107,13 @@ module _ {s L₀ P₀ : List ℕ} (fits : Fits s L₀ P₀) where
           in
           (omega (arith, length-reverseAux ls Q), omega (arith, e))
 
-  pub filling-start : {i : ℕ} → i ≡ 0 → Filling s L₀ P₀ i 0 0 L₀ P₀
-  filling-start e =
+  pub filling-start : {i n m : ℕ} → i ≡ 0 → n ≡ 0 → m ≡ 0 → Filling s L₀ P₀ i n m L₀ P₀
+  filling-start e f g =
       record {
         links = [];
         stands = subst (Stands s (gap [])) (sym e) (stands-start s);
-        link-number = refl;
-        param-number = refl;
+        link-number = f;
+        param-number = g;
         held = record { link-slots = sym (over-none L₀ 0); param-slots = sym (over-none P₀ 0) };
       }
 
@@ -276,15 +276,15 @@ module _ {s L₀ P₀ : List ℕ} (fits : Fits s L₀ P₀) where
           unfolding link
           filled-behind e = held-filled (linkOf (f .link) ∷ w .links) (finishes (here .stands) e (here .settles)) held-more
 
-          pub link-on : {v : ℕ} → d < length s → v ≡ d + 1 → Filling s L₀ P₀ v (n + 1) x L′ P′
+          pub link-on : {v u : ℕ} → d < length s → v ≡ d + 1 → u ≡ n + 1 → Filling s L₀ P₀ v u x L′ P′
           unfolding link
-          link-on e y =
+          link-on e y z =
               record {
                 links = linkOf (f .link) ∷ w .links;
                 stands =
                     subst (Stands s (gap (linkOf (f .link) ∷ w .links))) (sym (y ∙ add-one d))
                     (ready-comma here (there (f .link .rest .ends)));
-                link-number = add-one n ∙ ap suc (w .link-number);
+                link-number = z ∙ add-one n ∙ ap suc (w .link-number);
                 param-number = omega (arith, f .next, w .param-number, kept-count);
                 held = held-more;
               }

@@ -32,7 +32,7 @@ fn keep(params: &mut [usize], m: ParamNumber, r: ParamRecord, again: bool) -> Pa
         return m;
     }
     kinds::put_param(params, m, r);
-    ParamNumber(m.0 + 1)
+    m.next()
 }
 
 // Writes the records of a link's kept parameters, from number m on.
@@ -89,8 +89,8 @@ pub fn fill(s: &[u8], links: &mut [usize], params: &mut [usize])
     ensures { λ _. ⌜ Filled (now (s .entry)) (now (links .entry)) (now (links .exit)) (now (params .entry)) (now (params .exit)) ⌝ }
 {
     let mut c = Cursor::start();
-    let mut n = LinkNumber(0);
-    let mut m = ParamNumber(0);
+    let mut n = LinkNumber::first();
+    let mut m = ParamNumber::first();
     loop {
         let i = c.past_blanks(s);
         if i.at.0 >= s.len() {
@@ -101,7 +101,7 @@ pub fn fill(s: &[u8], links: &mut [usize], params: &mut [usize])
             continue;
         }
         let f = fill_link(s, i.past_octet(s), links, n, params, m);
-        n = LinkNumber(n.0 + 1);
+        n = n.next();
         m = f.next;
         let at = f.at;
         if at.at.0 >= s.len() {

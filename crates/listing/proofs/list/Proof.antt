@@ -1,6 +1,6 @@
--- A table that reading answers with its counts is held.
+-- A table that reading answers with its counts is held; the answer is reading's own in each case.
 use borrow.Author.Needs.{needs}
-use Rattle.listing.proofs.Links.{done-held}
+use Rattle.listing.proofs.Links.{handed-on, done-held}
 use Rattle.listing.proofs.list.Statement.{statement}
 use Rattle.listing.proofs.list.Tie as tie
 
@@ -44,7 +44,7 @@ same-length-2 : tie.Need-same-length-2
 same-length-2 c = search needs
 
 returns : tie.Need-returns
-returns c = search needs
+returns c = handed-on _ _ (c .before .before .before .before .before .before .before .before .before .before .read .ensures) (c .before .before .before .before .answer .given .1)
 
 same-length-3 : tie.Need-same-length-3
 same-length-3 c = search needs
@@ -53,7 +53,7 @@ same-length-4 : tie.Need-same-length-4
 same-length-4 c = search needs
 
 returns-2 : tie.Need-returns-2
-returns-2 c = search needs
+returns-2 c = c .before .before .before .before .before .before .before .read .ensures
 
 same-length-5 : tie.Need-same-length-5
 same-length-5 c = search needs
@@ -62,7 +62,7 @@ same-length-6 : tie.Need-same-length-6
 same-length-6 c = search needs
 
 returns-3 : tie.Need-returns-3
-returns-3 c = search needs
+returns-3 c = handed-on _ _ (c .before .before .before .before .before .before .before .before .read .ensures) (c .before .before .answer2 .given .1)
 
 same-length-7 : tie.Need-same-length-7
 same-length-7 c = search needs
@@ -71,7 +71,7 @@ same-length-8 : tie.Need-same-length-8
 same-length-8 c = search needs
 
 returns-4 : tie.Need-returns-4
-returns-4 c = search needs
+returns-4 c = c .before .before .before .before .before .before .before .read .ensures
 
 same-length-9 : tie.Need-same-length-9
 same-length-9 c = search needs
@@ -80,7 +80,7 @@ same-length-10 : tie.Need-same-length-10
 same-length-10 c = search needs
 
 returns-5 : tie.Need-returns-5
-returns-5 c = search needs
+returns-5 c = c .before .before .before .before .before .before .before .read .ensures
 
 pub list-spec : {M : Type 1} → statement M
 list-spec =

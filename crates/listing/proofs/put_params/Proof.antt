@@ -13,8 +13,8 @@ abbrev μ-loop : tie.MeasureT-loop
 loop-holds : tie.Need-loop-holds Inv-loop μ-loop
 loop-holds c = search needs
 
-add-t7 : tie.Need-add-t7 Inv-loop μ-loop
-add-t7 c = search needs
+plus-requires : tie.Need-plus-requires Inv-loop μ-loop
+plus-requires c κs = search needs
 
 param-at-requires : tie.Need-param-at-requires Inv-loop μ-loop
 param-at-requires c κs = search needs
@@ -41,7 +41,7 @@ put-params-spec =
     Inv-loop
     μ-loop
     loop-holds
-    add-t7
+    plus-requires
     param-at-requires
     put-param-requires
     add-k

@@ -1,41 +1,43 @@
 -- The loop passes the links: what is left of the table tells that each one's parameters stand in the slots.
 use Prim.Native.Nat.{_-_}
 use borrow.Author.Needs.{needs}
-use mathlib.Core.Path.{refl}
 use Rattle.listing.proofs.Links.{Left, begin, link-room, params-inside, on}
 use Rattle.listing.proofs.put_table.Statement.{statement}
 use Rattle.listing.proofs.put_table.Tie as tie
 
 abbrev Inv-loop : tie.InvT-loop
-Inv-loop links params link-count param-count i₀ i = Left links params link-count param-count i
+Inv-loop links params link-count param-count i₀ i = Left links params link-count param-count (i .0)
 
 abbrev μ-loop : tie.MeasureT-loop
-μ-loop links params link-count param-count i₀ i = link-count - i
+μ-loop links params link-count param-count i₀ i = link-count - i .0
 
 put-counts-requires : tie.Need-put-counts-requires Inv-loop μ-loop
 put-counts-requires c κs = search needs
 
+first-requires : tie.Need-first-requires Inv-loop μ-loop
+first-requires c κs = search needs
+
 loop-holds : tie.Need-loop-holds Inv-loop μ-loop
-loop-holds c = begin (c .before .before .before .pre)
+loop-holds c = begin (c .before .before .before .before .pre) (c .first .ensures)
 
 link-at-requires : tie.Need-link-at-requires Inv-loop μ-loop
-link-at-requires c κs = link-room (c .before .loop .inv) (c .loop-test .taken)
+link-at-requires c κs = link-room (c .before .before .loop .inv) (c .if1 .taken)
 
 put-link-requires : tie.Need-put-link-requires Inv-loop μ-loop
 put-link-requires c κs = search needs
 
 put-params-requires : tie.Need-put-params-requires Inv-loop μ-loop
 put-params-requires c κs =
-    params-inside (c .before .before .before .loop .inv) (c .before .before .loop-test .taken) (c .before .link-at .ensures)
+    params-inside (c .before .before .before .before .loop .inv) (c .before .before .if1 .taken) (c .before .link-at .ensures)
 
-add-i : tie.Need-add-i Inv-loop μ-loop
-add-i c = search needs
+next-requires : tie.Need-next-requires Inv-loop μ-loop
+next-requires c κs = search needs
 
 loop-less : tie.Need-loop-less Inv-loop μ-loop
 loop-less c = search needs
 
 loop-again : tie.Need-loop-again Inv-loop μ-loop
-loop-again c = on (c .before .before .before .before .loop .inv) (c .before .before .before .loop-test .taken) refl
+loop-again c = on (c .before .before .before .before .before .before .loop .inv) (c .before .before .before .before .if1 .taken) (c .next .ensures)
 
 returns : tie.Need-returns Inv-loop μ-loop
 returns c = search needs
@@ -47,11 +49,12 @@ put-table-spec =
     Inv-loop
     μ-loop
     put-counts-requires
+    first-requires
     loop-holds
     link-at-requires
     put-link-requires
     put-params-requires
-    add-i
+    next-requires
     loop-less
     loop-again
     returns)

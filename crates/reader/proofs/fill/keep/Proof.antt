@@ -3,7 +3,6 @@ use native.Mathlib.Omega.{arith}
 use native.Mathlib.Nat.{add-zero}
 use mathlib.Core.Path.{refl, sym}
 use borrow.Author.Needs.{needs}
-use borrow.Author.Needs.{needs}
 use Rattle.reader.proofs.fill.keep.Statement.{statement}
 use Rattle.reader.proofs.fill.keep.Tie as tie
 
@@ -13,14 +12,14 @@ returns c = rw (c .if1 .taken) (sym (add-zero _), refl)
 put-param-requires : tie.Need-put-param-requires
 put-param-requires c κs = (c .before .before .before .pre) (c .before .if1 .left)
 
-add-t9 : tie.Need-add-t9
-add-t9 c = omega (arith, (c .before .before .before .before .before .before .before .pre) (c .before .before .before .before .before .if1 .left), (c .before .before .before .before .before .before .before .good .0 .0))
+next-requires : tie.Need-next-requires
+next-requires c κs = omega (arith, (c .before .before .before .before .before .before .pre) (c .before .before .before .before .if1 .left), c .before .before .before .before .before .before .good .0 .0)
 
 same-length : tie.Need-same-length
 same-length c = search needs
 
 returns-2 : tie.Need-returns-2
-returns-2 c = rw (c .before .before .before .before .before .if1 .left) (refl, (c .before .before .before .put-param .ensures))
+returns-2 c = rw (c .before .before .before .before .before .if1 .left) (c .next .ensures, c .before .before .before .put-param .ensures)
 
 pub keep-spec : {M : Type 1} → statement M
-keep-spec = tie.close (tie.spec returns put-param-requires add-t9 same-length returns-2)
+keep-spec = tie.close (tie.spec returns put-param-requires next-requires same-length returns-2)
