@@ -10,7 +10,7 @@ use Rattle.octets.specs.Fold.{same}
 use Rattle.grammar.specs.Link.{Param}
 use Rattle.grammar.specs.Kept.{nameOf}
 use Rattle.tables.specs.Table.{Table}
-use Rattle.tables.specs.Good.{Each, each-none, each-more, Span, GoodParam}
+use Rattle.tables.specs.Good.{Each, each-none, each-more, InText, GoodParam}
 use Rattle.tables.specs.Relation.{named}
 use Rattle.outcomes.specs.Usable.{long-text, not-good}
 use Rattle.outcomes.specs.Context.{ContextOut, Context, refused, no-such-link, anchored, unanchored}
@@ -30,7 +30,7 @@ module _ (Q : Param → Type 0) (s n : List ℕ) where
   of-named p (each-more {x} {xs} q r) e = choose x p (named s n xs) (same (nameOf s x) n) q (of-named p r) e
 
 pub within : (t : Table) (base : List ℕ) (i : ℕ) {o : ContextOut} → Context t base i o
-    → Span (sourceOctets (t .text) base (contextNumbers o .source)) (o .start) (o .end)
+    → InText (sourceOctets (t .text) base (contextNumbers o .source)) (o .start) (o .end)
 within t base i (refused (long-text h)) = record { ordered = omega arith; inside = omega arith }
 within t base i (refused (not-good h g)) = record { ordered = omega arith; inside = omega arith }
 within t base i (no-such-link u h) = record { ordered = omega arith; inside = omega arith }

@@ -5,7 +5,7 @@ use mathlib.Core.Bool.{cond}
 use mathlib.Core.List.{List}
 use lib.Dec.{eqb}
 use Rattle.tables.specs.Table.{Table}
-use Rattle.tables.specs.Good.{Span}
+use Rattle.tables.specs.Good.{InText}
 use Rattle.outcomes.specs.Number.{done}
 use Rattle.outcomes.specs.Context.{Source, of-text, of-base, ContextOut, Context}
 use Rattle.capi.specs.declared.context.CapstanContextAnswer.{CapstanContextAnswer}
@@ -34,4 +34,4 @@ pub record IsContext (t : Table) (base : List ℕ) (i : ℕ) (r : CapstanContext
   pub out : ContextOut
   pub outcome : Context t base i out
   pub numbers : r ≡ contextNumbers out
-  pub within : Span (sourceOctets (t .text) base (r .source)) (r .start) (r .end)
+  pub within : InText (sourceOctets (t .text) base (r .source)) (r .start) (r .end)

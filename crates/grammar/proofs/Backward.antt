@@ -42,7 +42,7 @@ use Rattle.grammar.specs.Grammar.{
   last,
   comma,
 }
-use Rattle.grammar.proofs.Machine.{
+use Rattle.grammar.specs.Machine.{
   State,
   gap,
   target,
@@ -62,7 +62,7 @@ use Rattle.grammar.proofs.Machine.{
   next,
   nameEnd,
 }
-use Rattle.grammar.proofs.Machine.{step, param, add, flag, close, opened}
+use Rattle.grammar.specs.Machine.{step, param, add, flag, close, opened}
 use Rattle.grammar.proofs.Rest.{
   Gap,
   Ends,

@@ -5,7 +5,7 @@ use mathlib.Core.Bool.{Bool, true, false, true≢false}
 use lib.Dec.{eqb}
 use Rattle.octets.specs.Sets.{isBlank, isToken, isPlain}
 use Rattle.octets.proofs.Laws.{not-eqb}
-use Rattle.grammar.specs.Grammar.{Extra, Apart}
+use Rattle.grammar.specs.Grammar.{Extra, Admissible}
 
 -- what is in the second set is not in the first, told the other way round
 pub turned : (a b : Bool) → (a ≡ true → b ≡ false) → b ≡ true → a ≡ false
@@ -35,7 +35,7 @@ pub plain-not-backslash : (c : ℕ) → isPlain c ≡ true → eqb c 92 ≡ fals
 unfolding isPlain
 plain-not-backslash c = not-eqb isPlain 92 c refl
 
-module _ (extra : Extra) (apart : Apart extra) where
+module _ (extra : Extra) (apart : Admissible extra) where
   pub extra-not-blank : (c : ℕ) → extra c ≡ true → isBlank c ≡ false
   extra-not-blank c = not-blank extra c (apart .space) (apart .tab)
 

@@ -1,10 +1,10 @@
 -- The editions of the grammar, and that their further octets keep apart.
 use mathlib.Core.Path.{refl}
 use mathlib.Core.Bool.{false≢true}
-use Rattle.grammar.specs.Grammar.{rfc8288, Apart}
+use Rattle.grammar.specs.Grammar.{rfc8288, Admissible}
 
-pub apart8288 : Apart rfc8288
-apart8288 =
+pub admissible8288 : Admissible rfc8288
+admissible8288 =
     record {
       token = λ c e. absurd (false≢true e);
       space = refl;

@@ -10,7 +10,7 @@ use Rattle.octets.specs.Sets.{isToken}
 use Rattle.grammar.specs.Link.{Link, Param}
 use Rattle.grammar.specs.Grammar.{
   Extra,
-  Apart,
+  Admissible,
   At,
   In,
   Run,
@@ -43,7 +43,7 @@ use Rattle.grammar.specs.Grammar.{
   comma,
   Field,
 }
-use Rattle.grammar.proofs.Machine.{
+use Rattle.grammar.specs.Machine.{
   State,
   gap,
   target,
@@ -61,7 +61,7 @@ use Rattle.grammar.proofs.Machine.{
   dead,
   Open,
 }
-use Rattle.grammar.proofs.Machine.{step, run, settle, inOrder, finish, param, add, flag, close}
+use Rattle.grammar.specs.Machine.{step, run, settle, inOrder, finish, param, add, flag, close}
 use Rattle.grammar.proofs.Rest.{
   whole,
   Gap,
@@ -217,7 +217,7 @@ left-some s i c cs e =
     let d : drop i s ≡ getD s i 0 ∷ drop (suc i) s = drop-cons s i 0 h in
     (h, cc, cc)
 
-module _ (extra : Extra) (apart : Apart extra) (s : List ℕ) where
+module _ (extra : Extra) (apart : Admissible extra) (s : List ℕ) where
   runs-out : (t : List ℕ) {st : State} {i : ℕ} {R : List Link} → i ≤ length s → drop i s ≡ t → Rest extra s st i R
       → finish (run extra st i t) (length s) ≡ some R
   runs-out [] {st} {i} {R} h e r =

@@ -9,7 +9,7 @@ use Rattle.octets.specs.Sets.{isBlank, isToken, isPlain, isTarget}
 use Rattle.grammar.specs.Link.{Link, Param}
 use Rattle.grammar.specs.Grammar.{
   Extra,
-  Apart,
+  Admissible,
   At,
   In,
   Run,
@@ -53,7 +53,7 @@ use Rattle.grammar.proofs.Classes.{
   blank-not-extra,
 }
 use Rattle.octets.proofs.Laws.{not-eqb}
-use Rattle.grammar.proofs.Machine.{State, Open, next, nameEnd, step, param, add, flag}
+use Rattle.grammar.specs.Machine.{State, Open, next, nameEnd, step, param, add, flag}
 use Rattle.grammar.proofs.Rest.{
   whole,
   Gap,
@@ -85,7 +85,7 @@ use Rattle.grammar.proofs.Rest.{
   r-escape,
 }
 
-module _ (extra : Extra) (apart : Apart extra) (s : List ℕ) where
+module _ (extra : Extra) (apart : Admissible extra) (s : List ℕ) where
   -- the octet that stands where further parameters or the link's end are asked
   pub data AfterStep (i : ℕ) : List Param → List Link → Type 0 where
     s-blank : {ps : List Param} {R : List Link} → isBlank (getD s i 0) ≡ true → After extra s (suc i) ps R → AfterStep i ps R

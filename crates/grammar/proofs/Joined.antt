@@ -12,10 +12,10 @@ use lib.ListN.{length, length-append}
 use borrow.Author.Tests.{eqb-true}
 use Rattle.octets.specs.Sets.{all, isBlank, isToken, isPlain, isEscapable, isTarget, isHex}
 use Rattle.grammar.specs.Link.{Link}
-use Rattle.grammar.specs.Grammar.{Extra, Apart, Field}
+use Rattle.grammar.specs.Grammar.{Extra, Admissible, Field}
 use Rattle.grammar.specs.Join.{Padded, padded, join, Readable}
 use Rattle.grammar.specs.Laws.{JoinsMalformed}
-use Rattle.grammar.proofs.Machine.{
+use Rattle.grammar.specs.Machine.{
   State,
   gap,
   target,
@@ -35,7 +35,7 @@ use Rattle.grammar.proofs.Machine.{
   run,
   settle,
 }
-use Rattle.grammar.proofs.Machine.{inOrder, finish}
+use Rattle.grammar.specs.Machine.{inOrder, finish}
 use Rattle.grammar.proofs.Exact.{derived-read, read-derived}
 use Rattle.grammar.proofs.Prefix.{run-append}
 use Rattle.grammar.proofs.Raise.{raiseLink, behind, behindIn, lift, run-lift, settle-lift, map-reverseAux}
@@ -49,7 +49,7 @@ never e =
     let z : _≡_ {A = ℕ} 0 1 = cc in
     absurd (omega arith)
 
-module _ (extra : Extra) (apart : Apart extra) where
+module _ (extra : Extra) (apart : Admissible extra) where
   -- SP and HTAB change nothing of where the header may end
   module _ (c : ℕ) (blank : isBlank c ≡ true) (no-target : isTarget c ≡ false) (no-percent : eqb c 37 ≡ false)
       (no-close : eqb c 62 ≡ false) (no-hex : isHex c ≡ false) (no-token : isToken c ≡ false) (no-extra : extra c ≡ false)

@@ -8,7 +8,7 @@ use mathlib.Core.List.{List, [], _∷_, _++_, map, map-append, append-assoc}
 use lib.ListN.{length, length-append, length-map}
 use Rattle.octets.specs.Fold.{folded}
 use Rattle.grammar.specs.Link.{Link, Param}
-use Rattle.grammar.specs.Grammar.{Extra, Apart}
+use Rattle.grammar.specs.Grammar.{Extra, Admissible}
 use Rattle.grammar.specs.Kept.{nameOf, among, isOnce, unless, keepAfter, keptLink, Reading}
 use Rattle.grammar.specs.Records.{linkRecords, recordsOf, paramRecords, countParams}
 use Rattle.grammar.specs.Join.{
@@ -61,7 +61,7 @@ module _ (u s v : List ℕ) where
       record { targetFrom = length u + l .targetFrom; targetTo = length u + l .targetTo; params = ps } ∷ ms)
       (keep-raised [] h) (kept-raised r)
 
-module _ (extra : Extra) (apart : Apart extra) where
+module _ (extra : Extra) (apart : Admissible extra) where
   -- the links of the join, with their kept parameters
   joinedKept : ℕ → List (Readable extra) → List Link
   joinedKept k [] = []
@@ -140,7 +140,7 @@ pub param-count-append : (ls ms : List Link) → countParams (ls ++ ms) ≡ coun
 param-count-append [] ms = sym (zero-add (countParams ms))
 param-count-append (l ∷ ls) ms = rw (param-count-append ls ms) (sym (add-assoc (length (l .params)) (countParams ls) (countParams ms)))
 
-module _ (extra : Extra) (apart : Apart extra) where
+module _ (extra : Extra) (apart : Admissible extra) where
   joined-links : (k m : ℕ) (hs : List (Readable extra)) → linkRecords m (joinedKept extra apart k hs) ≡ joinedLinks extra k m hs
   unfolding joinedKept
   joined-links k m [] = refl

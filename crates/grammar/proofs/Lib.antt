@@ -1,5 +1,4 @@
--- The laws of the grammar, and the machine by which they are proved.
-pub mod Machine
+-- The laws of the grammar, proved by its machine.
 pub mod Classes
 pub mod Rest
 pub mod Forward

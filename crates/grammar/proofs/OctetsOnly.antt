@@ -12,10 +12,10 @@ use Rattle.octets.specs.Sets.{all, isOctet, isBlank, isToken, isPlain, isEscapa
 use Rattle.octets.proofs.Laws.{token-octet, plain-octet, escapable-octet, blank-octet, target-octet, hex-octet}
 use Rattle.octets.proofs.Octets.{Octets}
 use Rattle.grammar.specs.Link.{Link}
-use Rattle.grammar.specs.Grammar.{Extra, Apart, Field}
+use Rattle.grammar.specs.Grammar.{Extra, Admissible, Field}
 use Rattle.grammar.specs.Laws.{OctetsOnly}
 use Rattle.grammar.proofs.Classes.{turned}
-use Rattle.grammar.proofs.Machine.{
+use Rattle.grammar.specs.Machine.{
   State,
   gap,
   target,
@@ -36,7 +36,7 @@ use Rattle.grammar.proofs.Machine.{
   step,
   run,
 }
-use Rattle.grammar.proofs.Machine.{finish, nameEnd, add, param}
+use Rattle.grammar.specs.Machine.{finish, nameEnd, add, param}
 use Rattle.grammar.proofs.Exact.{derived-read}
 use Rattle.grammar.proofs.Prefix.{run-dead}
 
@@ -50,7 +50,7 @@ beyond {f} o c h = turned (f c) true (λ e. absurd (over (o c e))) refl
 other : (k c : ℕ) → k < 256 → isOctet c ≡ false → eqb c k ≡ false
 other k c lt h = ne-eqb c k (λ e. omega (arith, leb-false c 255 h, e))
 
-module _ (extra : Extra) (apart : Apart extra) (c : ℕ) (h : isOctet c ≡ false) where
+module _ (extra : Extra) (apart : Admissible extra) (c : ℕ) (h : isOctet c ≡ false) where
   next-dead : (o : Open) → next o c ≡ dead
   next-dead o = rw (beyond blank-octet c h, other 59 c (omega arith) h, other 44 c (omega arith) h)
 
@@ -83,7 +83,7 @@ module _ (extra : Extra) (apart : Apart extra) (c : ℕ) (h : isOctet c ≡ fals
   step-dead dead i = refl
 
 -- a header that the machine finishes has octets only
-read-octets : (extra : Extra) → Apart extra → (t : List ℕ) (st : State) (i n : ℕ) {R : List Link}
+read-octets : (extra : Extra) → Admissible extra → (t : List ℕ) (st : State) (i n : ℕ) {R : List Link}
     → finish (run extra st i t) n ≡ some R → all isOctet t ≡ true
 read-octets extra apart [] st i n e = refl
 read-octets extra apart (c ∷ t) st i n {R} e = go (isOctet c) refl (read-octets extra apart t (step extra st i c) (suc i) n e)

@@ -13,10 +13,10 @@ use lib.ListN.{length, take, drop, getD, length-append, length-take}
 use lib.Seq.{take-suc, take-add, take-length, length-take-le}
 use Rattle.octets.specs.Sets.{isBlank, isToken, isTarget, isHex, isEscapable}
 use Rattle.grammar.specs.Link.{Link}
-use Rattle.grammar.specs.Grammar.{Extra, Apart}
+use Rattle.grammar.specs.Grammar.{Extra, Admissible}
 use Rattle.grammar.specs.Place.{Begins, Place}
 use Rattle.grammar.specs.Laws.{OnePlace, CutShort}
-use Rattle.grammar.proofs.Machine.{
+use Rattle.grammar.specs.Machine.{
   State,
   gap,
   target,
@@ -115,7 +115,7 @@ module _ (extra : Extra) where
   completes (escape o m k v) i n e = (_, refl)
   completes dead i n e = absurd (true≢false e)
 
-module _ (extra : Extra) (apart : Apart extra) where
+module _ (extra : Extra) (apart : Admissible extra) where
   -- the state after a text
   abbrev pub upTo : List ℕ → State
   upTo u = run extra (gap []) 0 u

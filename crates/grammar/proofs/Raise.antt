@@ -10,7 +10,7 @@ use lib.Dec.{eqb}
 use Rattle.octets.specs.Sets.{isBlank, isToken, isPlain, isEscapable, isTarget, isHex}
 use Rattle.grammar.specs.Link.{Link, Param}
 use Rattle.grammar.specs.Grammar.{Extra, isBare}
-use Rattle.grammar.proofs.Machine.{
+use Rattle.grammar.specs.Machine.{
   State,
   gap,
   target,
@@ -30,7 +30,7 @@ use Rattle.grammar.proofs.Machine.{
   next,
   nameEnd,
 }
-use Rattle.grammar.proofs.Machine.{step, run, settle, param, add, flag, close, opened}
+use Rattle.grammar.specs.Machine.{step, run, settle, param, add, flag, close, opened}
 
 -- places raised by k
 abbrev pub raiseParam : ℕ → Param → Param

@@ -7,15 +7,15 @@ use mathlib.Core.List.{List, [], _∷_, map}
 use mathlib.Core.Option.{Option, none, some}
 use lib.ListN.{length}
 use Rattle.grammar.specs.Link.{Link}
-use Rattle.grammar.specs.Grammar.{Extra, Apart, Field}
+use Rattle.grammar.specs.Grammar.{Extra, Admissible, Field}
 use Rattle.grammar.specs.Kept.{keptLink, Reading}
 use Rattle.grammar.specs.Place.{Malformed}
 use Rattle.grammar.specs.Laws.{OneReading, Decided}
-use Rattle.grammar.proofs.Machine.{gap, run, finish}
+use Rattle.grammar.specs.Machine.{gap, run, finish}
 use Rattle.grammar.proofs.Exact.{derived-read, read-derived}
 
 -- no header is derived with two lists of links
-pub one-derived : (extra : Extra) → Apart extra → (s : List ℕ) {R Q : List Link} → Field extra s R → Field extra s Q → R ≡ Q
+pub one-derived : (extra : Extra) → Admissible extra → (s : List ℕ) {R Q : List Link} → Field extra s R → Field extra s Q → R ≡ Q
 one-derived extra apart s {R} {Q} f g =
     let a : finish (run extra (gap []) 0 s) (length s) ≡ some R = derived-read extra apart s f in
     let b : finish (run extra (gap []) 0 s) (length s) ≡ some Q = derived-read extra apart s g in
@@ -26,14 +26,14 @@ one-reading extra apart s K J a b =
     a .kept ∙ ap (map (keptLink s)) (one-derived extra apart s (a .derived) (b .derived)) ∙ sym (b .kept)
 
 -- a header that the machine doesn't finish is malformed
-pub unread-malformed : (extra : Extra) → Apart extra → (s : List ℕ) → finish (run extra (gap []) 0 s) (length s) ≡ none
+pub unread-malformed : (extra : Extra) → Admissible extra → (s : List ℕ) → finish (run extra (gap []) 0 s) (length s) ≡ none
     → Malformed extra s
 unread-malformed extra apart s e R f =
     let a : finish (run extra (gap []) 0 s) (length s) ≡ some R = derived-read extra apart s f in
     let z : _≡_ {A = ℕ} 0 1 = cc in
     omega arith
 
-pub read-reading : (extra : Extra) → Apart extra → (s : List ℕ) (R : List Link)
+pub read-reading : (extra : Extra) → Admissible extra → (s : List ℕ) (R : List Link)
     → finish (run extra (gap []) 0 s) (length s) ≡ some R → Reading extra s (map (keptLink s) R)
 read-reading extra apart s R e = record { links = R; derived = read-derived extra apart s e; kept = refl }
 

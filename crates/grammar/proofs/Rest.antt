@@ -20,7 +20,7 @@ use Rattle.grammar.specs.Grammar.{
   Parameters,
   Items,
 }
-use Rattle.grammar.proofs.Machine.{
+use Rattle.grammar.specs.Machine.{
   State,
   gap,
   target,

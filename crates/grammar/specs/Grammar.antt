@@ -58,7 +58,7 @@ abbrev pub rfc8288 : Extra
 rfc8288 c = false
 
 -- what the laws ask of an edition: its further octets are no token octets and none of those that end or begin a value
-pub record Apart (extra : Extra) : Type 0 where
+pub record Admissible (extra : Extra) : Type 0 where
   pub token : (c : ℕ) → extra c ≡ true → isToken c ≡ false
   pub space : extra 32 ≡ false
   pub tab : extra 9 ≡ false
@@ -97,12 +97,12 @@ module _ (extra : Extra) (s : List ℕ) where
     link : {i k j : ℕ} {ps : List Param} → At s i 60 → Target s (suc i) k → At s k 62 → Parameters (suc k) j ps
         → OneLink i j (record { targetFrom = suc i; targetTo = k; params = ps })
 
-  -- a place of the comma list: empty, or one link
+  -- an item of the comma list: empty, or one link
   pub data Item : ℕ → ℕ → List Link → Type 0 where
     empty : {i : ℕ} → Item i i []
     one : {i j : ℕ} {l : Link} → OneLink i j l → Item i j (l ∷ [])
 
-  -- a comma list: places parted by commas, with OWS round each comma
+  -- a comma list: items parted by commas, with OWS round each comma
   pub data Items : ℕ → ℕ → List Link → Type 0 where
     last : {i j : ℕ} {ls : List Link} → Item i j ls → Items i j ls
     comma : {i a b c j : ℕ} {ls ms : List Link} → Item i a ls → Blanks s a b → At s b 44 → Blanks s (suc b) c → Items c j ms

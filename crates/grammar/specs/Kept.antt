@@ -1,6 +1,6 @@
 -- Kept parameters: within one link, of six names only the first is kept. Later ones must still be derived.
-use Prim.Native.Nat.{ℕ}
-use mathlib.Core.Bool.{Bool, true, false, _&&_, _||_}
+use Prim.Native.Nat.{ℕ, suc}
+use mathlib.Core.Bool.{Bool, true, false, cond, _&&_, _||_}
 use mathlib.Core.List.{List, [], _∷_, map}
 use mathlib.Core.Path.{_≡_}
 use lib.Seq.{slice}
@@ -25,6 +25,15 @@ onceNames =
 
 unfoldable pub isOnce : List ℕ → Bool
 isOnce n = among onceNames n
+
+-- the names listed are numbered from k on, and any other name is 0
+abbrev pub codeFrom : List (List ℕ) → ℕ → List ℕ → ℕ
+codeFrom [] k n = 0
+codeFrom (m ∷ ms) k n = cond (same n m) k (codeFrom ms (suc k) n)
+
+-- the code of a folded name: 1 rel, 2 anchor, 3 media, 4 title, 5 title*, 6 type, and 0 any other name
+unfoldable pub codeOf : List ℕ → ℕ
+codeOf n = codeFrom onceNames 1 n
 
 abbrev pub unless : Bool → Param → List Param → List Param
 unless true p ps = ps

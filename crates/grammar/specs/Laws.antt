@@ -4,30 +4,39 @@ use mathlib.Core.Path.{_≡_}
 use mathlib.Core.Logic.{_⊎_}
 use mathlib.Core.Bool.{true, false, _||_}
 use mathlib.Core.List.{List, [], _∷_}
+use mathlib.Core.Option.{some}
 use lib.ListN.{length}
 use Rattle.octets.specs.Sets.{all, isOctet}
 use Rattle.octets.specs.Text.{octets}
 use Rattle.octets.specs.Fold.{same}
 use Rattle.grammar.specs.Link.{Link, Param}
-use Rattle.grammar.specs.Grammar.{Extra, Apart}
+use Rattle.grammar.specs.Grammar.{Extra, Admissible, Field}
 use Rattle.grammar.specs.Kept.{nameOf, isOnce, keepAfter, Reading}
 use Rattle.grammar.specs.Place.{Malformed, Begins, Place}
 use Rattle.grammar.specs.Join.{Padded, join, Readable, JoinReads}
+use Rattle.grammar.specs.Machine.{gap, run, finish}
+
+-- the machine is exact: a header is derived with the links R just if the machine, run over all of it, finishes with R
+pub record MachineExact : Type 0 where
+  pub derived-read : (extra : Extra) → Admissible extra → (s : List ℕ) (R : List Link) → Field extra s R
+      → finish (run extra (gap []) 0 s) (length s) ≡ some R
+  pub read-derived : (extra : Extra) → Admissible extra → (s : List ℕ) (R : List Link)
+      → finish (run extra (gap []) 0 s) (length s) ≡ some R → Field extra s R
 
 -- no header has two readings
 abbrev pub OneReading : Type 0
 OneReading =
-    (extra : Extra) → Apart extra → (s : List ℕ) (K J : List Link) → Reading extra s K → Reading extra s J → K ≡ J
+    (extra : Extra) → Admissible extra → (s : List ℕ) (K J : List Link) → Reading extra s K → Reading extra s J → K ≡ J
 
 -- whether a header has a reading is decided
 abbrev pub Decided : Type 0
 Decided =
-    (extra : Extra) → Apart extra → (s : List ℕ) → ((K : List Link) × Reading extra s K) ⊎ Malformed extra s
+    (extra : Extra) → Admissible extra → (s : List ℕ) → ((K : List Link) × Reading extra s K) ⊎ Malformed extra s
 
 -- a header's place exists, and is found; no other number is its place
 abbrev pub OnePlace : Type 0
 OnePlace =
-    (extra : Extra) → Apart extra → (s : List ℕ)
+    (extra : Extra) → Admissible extra → (s : List ℕ)
     → (k : ℕ) × Place extra s k × ((j : ℕ) → Place extra s j → j ≡ k)
 
 -- the parameters of the folded name n
@@ -65,14 +74,14 @@ CutShort = (extra : Extra) → (s : List ℕ) → Begins extra s → Place extra
 -- every number of a derivable header is an octet
 abbrev pub OctetsOnly : Type 0
 OctetsOnly =
-    (extra : Extra) → Apart extra → (s : List ℕ) (K : List Link) → Reading extra s K → all isOctet s ≡ true
+    (extra : Extra) → Admissible extra → (s : List ℕ) (K : List Link) → Reading extra s K → all isOctet s ≡ true
 
 -- the joining law: a single claim about a whole list of headers that have readings
 abbrev pub Joins : Type 0
-Joins = (extra : Extra) → Apart extra → (hs : List (Readable extra)) → JoinReads extra hs
+Joins = (extra : Extra) → Admissible extra → (hs : List (Readable extra)) → JoinReads extra hs
 
 -- a header that has a reading, followed by a malformed one, joins to a malformed header
 abbrev pub JoinsMalformed : Type 0
 JoinsMalformed =
-    (extra : Extra) → Apart extra → (p q : Padded) (K : List Link) → Reading extra (p .header) K
+    (extra : Extra) → Admissible extra → (p q : Padded) (K : List Link) → Reading extra (p .header) K
     → Malformed extra (q .header) → Malformed extra (join (p ∷ q ∷ []))

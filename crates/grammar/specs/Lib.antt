@@ -5,4 +5,5 @@ pub mod Kept
 pub mod Records
 pub mod Place
 pub mod Join
+pub mod Machine
 pub mod Laws

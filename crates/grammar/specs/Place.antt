@@ -21,3 +21,8 @@ pub record Place (extra : Extra) (s : List ℕ) (k : ℕ) : Type 0 where
   pub within : k ≤ length s
   pub begins : Begins extra (take k s)
   pub longest : (j : ℕ) → k < j → j ≤ length s → Begins extra (take j s) → ⊥
+
+-- the header is malformed, and k is its place
+pub record MalformedAt (extra : Extra) (s : List ℕ) (k : ℕ) : Type 0 where
+  pub malformed : Malformed extra s
+  pub place : Place extra s k

@@ -4,26 +4,33 @@ use mathlib.Core.List.{List, [], _∷_, _++_}
 use lib.ListN.{length}
 use Rattle.grammar.specs.Link.{Link, Param}
 
+-- how many numbers a link record has, and a parameter record
+abbrev pub linkWidth : ℕ
+linkWidth = 4
+
+abbrev pub paramWidth : ℕ
+paramWidth = 5
+
 -- Room: the slots lent, divided by the numbers of a record and rounded down.
 abbrev pub linkRoom : List ℕ → ℕ
-linkRoom L = length L / 4
+linkRoom L = length L / linkWidth
 
 abbrev pub paramRoom : List ℕ → ℕ
-paramRoom P = length P / 5
+paramRoom P = length P / paramWidth
 
 -- how many parameters the links have in all
 abbrev pub countParams : List Link → ℕ
 countParams [] = 0
 countParams (l ∷ ls) = length (l .params) + countParams ls
 
--- link records, 4 numbers each: target start, target end, number of the first parameter, count of parameters;
+-- link records: target start, target end, number of the first parameter, count of parameters;
 -- the first link's parameters begin at number n
 abbrev pub linkRecords : ℕ → List Link → List ℕ
 linkRecords n [] = []
 linkRecords n (l ∷ ls) =
     l .targetFrom ∷ l .targetTo ∷ n ∷ length (l .params) ∷ linkRecords (n + length (l .params)) ls
 
--- parameter records, 5 numbers each: name start, name end, value start, value end, form
+-- parameter records: name start, name end, value start, value end, form
 abbrev pub recordsOf : List Param → List ℕ
 recordsOf [] = []
 recordsOf (p ∷ ps) = p .nameFrom ∷ p .nameTo ∷ p .valueFrom ∷ p .valueTo ∷ p .form ∷ recordsOf ps

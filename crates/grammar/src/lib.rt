@@ -1,5 +1,10 @@
 // The laws of the grammar, held by the gate: each function promises one statement of specs/Laws.antt and does nothing.
-ghost use Rattle.grammar.specs.Laws.{OneReading, Decided, OnePlace, Keeps, CutShort, OctetsOnly, Joins, JoinsMalformed};
+ghost use Rattle.grammar.specs.Laws.{MachineExact, OneReading, Decided, OnePlace, Keeps, CutShort, OctetsOnly, Joins, JoinsMalformed};
+
+// The machine is exact for the grammar.
+pub fn machine_exact()
+    ensures { λ _. ⌜ MachineExact ⌝ }
+{}
 
 // No header has two readings.
 pub fn one_reading()

@@ -9,11 +9,11 @@ use lib.Seq.{take-at, take-append-seam}
 use Rattle.grammar.specs.Link.{Link}
 use Rattle.grammar.specs.Grammar.{rfc8288}
 use Rattle.grammar.specs.Kept.{Reading}
-use Rattle.grammar.specs.Records.{linkRoom, paramRoom, linkRecords, paramRecords, countParams}
-use Rattle.grammar.specs.Place.{Malformed, Place}
+use Rattle.grammar.specs.Records.{linkWidth, paramWidth, linkRoom, paramRoom, linkRecords, paramRecords, countParams}
+use Rattle.grammar.specs.Place.{Malformed, Place, MalformedAt}
 use Rattle.grammar.specs.Join
 use Rattle.grammar.specs.Join.{Padded, padded, join, raiseLinks, raiseParams, Readable}
-use Rattle.grammar.proofs.Editions.{apart8288}
+use Rattle.grammar.proofs.Editions.{admissible8288}
 use Rattle.grammar.proofs.Joining.{joins}
 use Rattle.tables.specs.Table.{Table}
 use Rattle.tables.specs.Good.{Good}
@@ -32,8 +32,8 @@ use Rattle.laws.specs.Answers.{
   Accepted,
   pads,
   joinOf,
-  linksOf,
-  paramsOf,
+  linkRecordsOf,
+  paramRecordsOf,
   linkSum,
   paramSum,
   joinedLinks,
@@ -41,8 +41,8 @@ use Rattle.laws.specs.Answers.{
   JoinAnswers,
   JoinRefuses,
 }
-use Rattle.laws.specs.Answers.{Rejected, brokenJoin, octetsBefore, Shown, JoinRefused}
-use Rattle.laws.specs.Answers.{Wrote, octetsOf, readTable, BackAnswers, WrittenApart}
+use Rattle.laws.specs.Answers.{Rejected, brokenJoin, octetsBefore, PlaceSettled, JoinRefused}
+use Rattle.laws.specs.Answers.{AcceptedTable, octetsOf, readTable, BackAnswers, WrittenApart}
 use Rattle.laws.proofs.Broken.{padsOf, malformed-among, front, tail, join-at, not-before, at-place}
 
 -- ---- what an answer tells of the input
@@ -55,20 +55,19 @@ record Filled (h L P : List ℕ) (out : ReadOut) : Type 0 where
 
 read-done : {h L P : List ℕ} {out : ReadOut} → Read h L P out → out .number ≡ done → Filled h L P out
 read-done (too-long l) e = absurd (omega arith)
-read-done (not-derived s m p) e = absurd (omega arith)
+read-done (not-derived s m) e = absurd (omega arith)
 read-done (no-link-room s r l) e = absurd (omega arith)
 read-done (no-param-room s r l m) e = absurd (omega arith)
 read-done (reads {K = K} s r l m) e = record { links = K; reading = r; is = refl }
 
 -- it answered 2: the header is malformed, at the place answered
 record Fails (h L P : List ℕ) (out : ReadOut) : Type 0 where
-  malformed : Malformed rfc8288 h
-  place : Place rfc8288 h (out .place)
+  at : MalformedAt rfc8288 h (out .place)
   is : out ≡ Read.refused L P malformedHeader (out .place)
 
 read-malformed : {h L P : List ℕ} {out : ReadOut} → Read h L P out → out .number ≡ malformedHeader → Fails h L P out
 read-malformed (too-long l) e = absurd (omega arith)
-read-malformed (not-derived s m p) e = record { malformed = m; place = p; is = refl }
+read-malformed (not-derived s m) e = record { at = m; is = refl }
 read-malformed (no-link-room s r l) e = absurd (omega arith)
 read-malformed (no-param-room s r l m) e = absurd (omega arith)
 read-malformed (reads s r l m) e = absurd (omega arith)
@@ -76,7 +75,7 @@ read-malformed (reads s r l m) e = absurd (omega arith)
 -- a malformed header of at most 8,192 octets answers so
 malformed-read : {h L P : List ℕ} {out : ReadOut} → length h ≤ limit → Malformed rfc8288 h → Read h L P out → Fails h L P out
 malformed-read s m (too-long l) = absurd (omega arith)
-malformed-read s m (not-derived _ _ p) = record { malformed = m; place = p; is = refl }
+malformed-read s m (not-derived _ p) = record { at = p; is = refl }
 malformed-read s m (no-link-room _ d l) = absurd (m (d .links) (d .derived))
 malformed-read s m (no-param-room _ d l k) = absurd (m (d .links) (d .derived))
 malformed-read s m (reads _ d l k) = absurd (m (d .links) (d .derived))
@@ -99,8 +98,8 @@ readable a =
 record Agrees (a : Accepted) (K : List Link) : Type 0 where
   link-count : a .alone .out .links ≡ length K
   param-count : a .alone .out .params ≡ countParams K
-  link-records : linksOf a ≡ linkRecords 0 K
-  param-records : paramsOf a ≡ paramRecords K
+  link-records : linkRecordsOf a ≡ linkRecords 0 K
+  param-records : paramRecordsOf a ≡ paramRecords K
 
 agrees : (a : Accepted) → Agrees a (readable a .reading)
 unfolding readable
@@ -111,11 +110,11 @@ agrees a =
       link-count = ap (λ (o : ReadOut). o .links) (f .is);
       param-count = ap (λ (o : ReadOut). o .params) (f .is);
       link-records =
-          ap (λ (o : ReadOut). take (4 * o .links) (o .linkSlots)) (f .is)
-          ∙ take-at (linkRecords 0 K) _ (4 * length K) (link-records-length 0 K);
+          ap (λ (o : ReadOut). take (linkWidth * o .links) (o .linkSlots)) (f .is)
+          ∙ take-at (linkRecords 0 K) _ (linkWidth * length K) (link-records-length 0 K);
       param-records =
-          ap (λ (o : ReadOut). take (5 * o .params) (o .paramSlots)) (f .is)
-          ∙ take-at (paramRecords K) _ (5 * countParams K) (param-records-length K);
+          ap (λ (o : ReadOut). take (paramWidth * o .params) (o .paramSlots)) (f .is)
+          ∙ take-at (paramRecords K) _ (paramWidth * countParams K) (param-records-length K);
     }
 
 same-pads : (hs : List Accepted)
@@ -150,7 +149,7 @@ same-params k (a ∷ hs) =
 
 pub join-answers : JoinAnswers
 join-answers hs L P short links params r a =
-    let j = joins rfc8288 apart8288 (map readable hs) in
+    let j = joins rfc8288 admissible8288 (map readable hs) in
     let reading : Reading rfc8288 (joinOf hs) (j .links) =
     subst (λ (ps : List Padded). Reading rfc8288 (join ps) (j .links)) (same-pads hs) (j .reads)
     in
@@ -175,8 +174,8 @@ pub join-refuses : JoinRefuses
 join-refuses hs b gs L P short r a =
     record {
       answer = fails .is;
-      not-before = omega (arith, before, not-before (map readable hs) q B (b .alone .out .place) (r .place) (bad .place) place);
-      place = λ c. at-place (map readable hs) q B (b .alone .out .place) (r .place) (bad .place) place (shown c)
+      not-before = omega (arith, before, not-before (map readable hs) q B (b .alone .out .place) (r .place) (bad .at .place) place);
+      place = λ c. at-place (map readable hs) q B (b .alone .out .place) (r .place) (bad .at .place) place (shown c)
           ∙ ap (λ (n : ℕ). n + b .alone .out .place) before;
     }
   where
@@ -193,19 +192,19 @@ join-refuses hs b gs L P short r a =
     fails =
         malformed-read short
         (subst₂ (λ (ps qs : List Padded). Malformed rfc8288 (join (ps ++ q ∷ qs))) (same-pads hs) (same-pads gs)
-        (malformed-among (map readable hs) q (map readable gs) (bad .malformed))) a
+        (malformed-among (map readable hs) q (map readable gs) (bad .at .malformed))) a
 
     place : Place rfc8288 (front (padsOf (map readable hs)) (q .left) ++ (q .header ++ B)) (r .place)
     place =
         subst (λ (s : List ℕ). Place rfc8288 s (r .place))
         (join-at (pads hs) q (pads gs)
         ∙ ap (λ (ps : List Padded). front ps (q .left) ++ (q .header ++ B)) (sym (same-pads hs)))
-        (fails .place)
+        (fails .at .place)
 
     before : length (front (padsOf (map readable hs)) (q .left)) ≡ octetsBefore hs b
     before = ap (λ (ps : List Padded). length (front ps (q .left))) (same-pads hs) ∙ long-front hs b
 
-    shown : Shown b gs → (b .alone .out .place < length (q .header)) ⊎ (B ≡ [])
+    shown : PlaceSettled b gs → (b .alone .out .place < length (q .header)) ⊎ (B ≡ [])
     shown (inl l) = inl l
     shown (inr (e, z)) = inr (ap₂ (λ (x : List ℕ) (ys : List Accepted). x ++ tail (pads ys)) e z)
 
@@ -244,7 +243,7 @@ back-answers t w L P links params r a =
       ap (λ (o : ReadOut). o .links) e ∙ b .link-count,
       ap (λ (o : ReadOut). o .params) e ∙ b .param-count,
       ap₂ (λ (s : List ℕ) (o : ReadOut). tableMeanings (readTable s o)) (d .is) e
-          ∙ ap (meanings f) (read-good f K (drop (4 * length K) L) (drop (5 * countParams K) P) (b .reads) .same-links)
+          ∙ ap (meanings f) (read-good f K (drop (linkWidth * length K) L) (drop (paramWidth * countParams K) P) (b .reads) .same-links)
           ∙ b .same-meanings,
     )
 

@@ -14,7 +14,7 @@ use Rattle.octets.specs.Sets.{isBlank, isToken, isPlain, isEscapable, isTarget,
 use Rattle.grammar.specs.Link.{Link}
 use Rattle.grammar.specs.Grammar.{rfc8288, Field}
 use Rattle.grammar.specs.Place.{Malformed}
-use Rattle.grammar.proofs.Machine.{
+use Rattle.grammar.specs.Machine.{
   State,
   gap,
   target,
@@ -34,8 +34,8 @@ use Rattle.grammar.proofs.Machine.{
   run,
   settle,
 }
-use Rattle.grammar.proofs.Machine.{Open, next, nameEnd, add, flag, param, opened, inOrder}
-use Rattle.grammar.proofs.Editions.{apart8288}
+use Rattle.grammar.specs.Machine.{Open, next, nameEnd, add, flag, param, opened, inOrder}
+use Rattle.grammar.proofs.Editions.{admissible8288}
 use Rattle.grammar.proofs.Exact.{derived-read, read-derived}
 use Rattle.grammar.proofs.Prefix.{run-append}
 
@@ -228,7 +228,7 @@ comma-beside dead i e = over refl
 -- the links of a derived header, last first
 settled : (s : List ℕ) {R : List Link} → Field rfc8288 s R
     → (ls : List Link) × (settle (run rfc8288 (gap []) 0 s) (length s) ≡ some ls)
-settled s {R} f = go (settle (run rfc8288 (gap []) 0 s) (length s)) refl (derived-read rfc8288 apart8288 s f)
+settled s {R} f = go (settle (run rfc8288 (gap []) 0 s) (length s)) refl (derived-read rfc8288 admissible8288 s f)
   where
     go : (x : Option (List Link)) → settle (run rfc8288 (gap []) 0 s) (length s) ≡ x → inOrder x ≡ some R
         → (ls : List Link) × (settle (run rfc8288 (gap []) 0 s) (length s) ≡ some ls)
@@ -241,7 +241,7 @@ unsettled s bad = go (settle (run rfc8288 (gap []) 0 s) (length s)) refl
     go : (x : Option (List Link)) → settle (run rfc8288 (gap []) 0 s) (length s) ≡ x
         → settle (run rfc8288 (gap []) 0 s) (length s) ≡ none
     go none q = q
-    go (some ls) q = absurd (bad _ (read-derived rfc8288 apart8288 s (ap inOrder q)))
+    go (some ls) q = absurd (bad _ (read-derived rfc8288 admissible8288 s (ap inOrder q)))
 
 pub malformed-first : (s t : List ℕ) {R : List Link} → Malformed rfc8288 s → Field rfc8288 t R → Malformed rfc8288 (s ++ 44 ∷ t)
 malformed-first s t bad f Q g =

@@ -15,7 +15,7 @@ use Rattle.grammar.specs.Grammar.{rfc8288, Field}
 use Rattle.grammar.specs.Kept.{keptLink, Reading}
 use Rattle.grammar.specs.Place.{Malformed, Begins, Place}
 use Rattle.grammar.specs.Join.{Padded, padded, join, Readable}
-use Rattle.grammar.proofs.Editions.{apart8288}
+use Rattle.grammar.proofs.Editions.{admissible8288}
 use Rattle.grammar.proofs.Readings.{decided}
 use Rattle.grammar.proofs.Joined.{joined-derived, joins-malformed}
 use Rattle.laws.specs.Laws.{bare}
@@ -48,9 +48,9 @@ join-append p (r ∷ ps) q qs =
 -- blanks round a malformed header mend nothing: an empty header before them would make a malformed join of two derivable ones
 malformed-padded : (q : Padded) → Malformed rfc8288 (q .header) → Malformed rfc8288 (padded q)
 malformed-padded q bad R f =
-    let none : Field rfc8288 [] [] = joined-derived rfc8288 apart8288 [] in
-    let both = joined-derived rfc8288 apart8288 (unpadded [] none ∷ unpadded (padded q) f ∷ []) in
-    joins-malformed rfc8288 apart8288 (bare []) q _ (whole [] none) bad _
+    let none : Field rfc8288 [] [] = joined-derived rfc8288 admissible8288 [] in
+    let both = joined-derived rfc8288 admissible8288 (unpadded [] none ∷ unpadded (padded q) f ∷ []) in
+    joins-malformed rfc8288 admissible8288 (bare []) q _ (whole [] none) bad _
     (same (ap (λ (s : List ℕ). 44 ∷ s) (append-nil (padded q))) both)
 
 malformed-last : (hs : List (Readable rfc8288)) (q : Padded) → Malformed rfc8288 (q .header)
@@ -59,7 +59,7 @@ malformed-last [] q bad = malformed-padded q bad
 malformed-last (h ∷ hs) q bad =
     let J = join (padsOf (h ∷ hs)) in
     let two : Malformed rfc8288 ((J ++ []) ++ 44 ∷ padded q) =
-    joins-malformed rfc8288 apart8288 (bare J) q _ (whole J (joined-derived rfc8288 apart8288 (h ∷ hs))) bad
+    joins-malformed rfc8288 admissible8288 (bare J) q _ (whole J (joined-derived rfc8288 admissible8288 (h ∷ hs))) bad
     in
     subst (Malformed rfc8288)
     (ap (λ (x : List ℕ). x ++ 44 ∷ padded q) (append-nil J) ∙ sym (join-append (h .pad) (padsOf hs) q [])) two
@@ -69,7 +69,7 @@ pub malformed-among : (hs : List (Readable rfc8288)) (q : Padded) (gs : List (Re
 malformed-among hs q [] bad = malformed-last hs q bad
 malformed-among hs q (g ∷ gs) bad =
     subst (Malformed rfc8288) (sym (parted hs))
-    (malformed-first _ _ (malformed-last hs q bad) (joined-derived rfc8288 apart8288 (g ∷ gs)))
+    (malformed-first _ _ (malformed-last hs q bad) (joined-derived rfc8288 admissible8288 (g ∷ gs)))
   where
     parted : (hs : List (Readable rfc8288))
         → join (padsOf hs ++ q ∷ padsOf (g ∷ gs)) ≡ join (padsOf hs ++ q ∷ []) ++ 44 ∷ join (padsOf (g ∷ gs))
@@ -126,12 +126,12 @@ module _ (hs : List (Readable rfc8288)) (q : Padded) where
       record {
         rest = b .rest;
         links = _;
-        derived = same e (joined-derived rfc8288 apart8288 (hs ++ h ∷ []));
+        derived = same e (joined-derived rfc8288 admissible8288 (hs ++ h ∷ []));
       }
 
   -- what begins nothing alone begins nothing in the join either
   begins-alone : (u : List ℕ) → Begins rfc8288 (A ++ u) → Begins rfc8288 u
-  begins-alone u b = go (decided rfc8288 apart8288 (u ++ b .rest))
+  begins-alone u b = go (decided rfc8288 admissible8288 (u ++ b .rest))
     where
       go : ((K : List Link) × Reading rfc8288 (u ++ b .rest) K) ⊎ Malformed rfc8288 (u ++ b .rest) → Begins rfc8288 u
       go (inl (K, r)) = record { rest = b .rest; links = r .links; derived = r .derived }

@@ -16,9 +16,9 @@ use Rattle.octets.proofs.Octets.{both, every, every-at}
 use Rattle.grammar.specs.Link.{Link}
 use Rattle.grammar.specs.Grammar.{rfc8288}
 use Rattle.grammar.specs.Kept.{nameOf, isOnce, keptLink, Reading}
-use Rattle.grammar.specs.Records.{linkRoom, paramRoom, linkRecords, paramRecords, countParams}
-use Rattle.grammar.proofs.Machine.{gap, run, finish}
-use Rattle.grammar.proofs.Editions.{apart8288}
+use Rattle.grammar.specs.Records.{linkWidth, paramWidth, linkRoom, paramRoom, linkRecords, paramRecords, countParams}
+use Rattle.grammar.specs.Machine.{gap, run, finish}
+use Rattle.grammar.proofs.Editions.{admissible8288}
 use Rattle.grammar.proofs.Readings.{read-reading, unread-malformed}
 use Rattle.grammar.proofs.Prefix.{isDead, upTo, place-at}
 use Rattle.tables.specs.Table.{Table}
@@ -32,7 +32,7 @@ use Rattle.outcomes.specs.Read
 use Rattle.outcomes.specs.Copy.{untouched, holding}
 use Rattle.outcomes.specs.Search.{Search, has, found}
 use Rattle.outcomes.specs.Write.{Write, writtenForm, relationsAt, Related, no-relation, wrote}
-use Rattle.laws.specs.Row.{Writing, writes, answers, Judgement, reads, malformed, Row, recordedTable, Writes, ReadHolds, Judged, Holds}
+use Rattle.laws.specs.Row.{Writing, writes, answers, Judgement, reads, malformed, Row, recordedTable, Writes, ReadHolds, Judged, RowHolds}
 
 -- ---- the tests
 
@@ -64,11 +64,11 @@ unread (some R) = false
 
 abbrev pub checks : List ℕ → Judgement → Bool
 checks h (reads ls ps qs w) =
-    leb (length h) limit && recorded h ls ps (read h) && (isNone qs || ltb 0 (length ls / 4)) && asked (recordedTable h ls ps) qs
+    leb (length h) limit && recorded h ls ps (read h) && (isNone qs || ltb 0 (length ls / linkWidth)) && asked (recordedTable h ls ps) qs
     && written (recordedTable h ls ps) w
 checks h (malformed k) =
-    leb (length h) limit && unread (read h) && leb k (length h) && not (isDead (upTo rfc8288 apart8288 (take k h)))
-    && (eqb k (length h) || isDead (upTo rfc8288 apart8288 (take (suc k) h)))
+    leb (length h) limit && unread (read h) && leb k (length h) && not (isDead (upTo rfc8288 admissible8288 (take k h)))
+    && (eqb k (length h) || isDead (upTo rfc8288 admissible8288 (take (suc k) h)))
 
 -- ---- what they show
 
@@ -86,13 +86,13 @@ regood {h} {L} {L′} {P} {P′} {n} {n′} {m} {m′} l p c d g =
 
 -- what is known once the records are those of a reading
 pub record Known (h ls ps : List ℕ) : Type 0 where
-  pub fills : (L P : List ℕ) → length ls / 4 ≤ linkRoom L → length ps / 5 ≤ paramRoom P
+  pub fills : (L P : List ℕ) → length ls / linkWidth ≤ linkRoom L → length ps / paramWidth ≤ paramRoom P
       → Read h L P
       (record {
         number = done;
         place = 0;
-        links = length ls / 4;
-        params = length ps / 5;
+        links = length ls / linkWidth;
+        params = length ps / paramWidth;
         linkSlots = ls ++ drop (length ls) L;
         paramSlots = ps ++ drop (length ps) P;
       })
@@ -122,7 +122,7 @@ recorded-known h ls ps short e = go (read h) refl e
         let K = map (keptLink h) R in
         let (l, p) = both (same (linkRecords 0 K) ls) (same (paramRecords K) ps) e in
         subst₂ (λ (x y : List ℕ). Known h x y) (same-sound (linkRecords 0 K) ls l) (same-sound (paramRecords K) ps p)
-        (known h short K (read-reading rfc8288 apart8288 h R q))
+        (known h short K (read-reading rfc8288 admissible8288 h R q))
 
 is-none : {A : Type 0} (xs : List A) → isNone xs ≡ true → xs ≡ []
 is-none [] e = refl
@@ -169,13 +169,13 @@ reads-hold h ls ps qs w e =
     let t = recordedTable h ls ps in
     let (abcd, writing) =
     both
-    (leb (length h) limit && recorded h ls ps (read h) && (isNone qs || ltb 0 (length ls / 4)) && asked t qs)
+    (leb (length h) limit && recorded h ls ps (read h) && (isNone qs || ltb 0 (length ls / linkWidth)) && asked t qs)
     (written t w) e
     in
     let (abc, queries) =
-    both (leb (length h) limit && recorded h ls ps (read h) && (isNone qs || ltb 0 (length ls / 4))) (asked t qs) abcd
+    both (leb (length h) limit && recorded h ls ps (read h) && (isNone qs || ltb 0 (length ls / linkWidth))) (asked t qs) abcd
     in
-    let (ab, links) = both (leb (length h) limit && recorded h ls ps (read h)) (isNone qs || ltb 0 (length ls / 4)) abc in
+    let (ab, links) = both (leb (length h) limit && recorded h ls ps (read h)) (isNone qs || ltb 0 (length ls / linkWidth)) abc in
     let (short, records) = both (leb (length h) limit) (recorded h ls ps (read h)) ab in
     let k = recorded-known h ls ps (leb-true (length h) limit short) records in
     record {
@@ -193,7 +193,7 @@ not-read h e = go (read h) e
 
 malformed-holds : (h : List ℕ) (k : ℕ) → checks h (malformed k) ≡ true → Judged h (malformed k)
 malformed-holds h k e =
-    let u = upTo rfc8288 apart8288 in
+    let u = upTo rfc8288 admissible8288 in
     let (abcd, dies) =
     both (leb (length h) limit && unread (read h) && leb k (length h) && not (isDead (u (take k h))))
     (eqb k (length h) || isDead (u (take (suc k) h))) e
@@ -204,11 +204,15 @@ malformed-holds h k e =
     let (ab, within) = both (leb (length h) limit && unread (read h)) (leb k (length h)) abc in
     let (short, none-read) = both (leb (length h) limit) (unread (read h)) ab in
     λ L P.
-    not-derived (leb-true (length h) limit short) (unread-malformed rfc8288 apart8288 h (not-read h none-read))
-    (place-at rfc8288 apart8288 h k (leb-true k (length h) within) (not-true (isDead (u (take k h))) lives)
-    (⊎-map (eqb-true k (length h)) (λ d. d) (either (eqb k (length h)) (isDead (u (take (suc k) h))) dies)))
+    not-derived (leb-true (length h) limit short)
+    (record {
+      malformed = unread-malformed rfc8288 admissible8288 h (not-read h none-read);
+      place =
+          place-at rfc8288 admissible8288 h k (leb-true k (length h) within) (not-true (isDead (u (take k h))) lives)
+          (⊎-map (eqb-true k (length h)) (λ d. d) (either (eqb k (length h)) (isDead (u (take (suc k) h))) dies));
+    })
 
-row-holds : (r : Row) → checks (r .header) (r .judgement) ≡ true → Holds r
+row-holds : (r : Row) → checks (r .header) (r .judgement) ≡ true → RowHolds r
 row-holds r e = go (r .header) (r .judgement) e
   where
     go : (h : List ℕ) (j : Judgement) → checks h j ≡ true → Judged h j
@@ -220,7 +224,7 @@ abbrev pub allCheck : List Row → Bool
 allCheck [] = true
 allCheck (r ∷ rs) = checks (r .header) (r .judgement) && allCheck rs
 
-pub rows-hold : (rs : List Row) → allCheck rs ≡ true → Each Holds rs
+pub rows-hold : (rs : List Row) → allCheck rs ≡ true → Each RowHolds rs
 rows-hold [] e = each-none
 rows-hold (r ∷ rs) e =
     let (x, y) = both (checks (r .header) (r .judgement)) (allCheck rs) e in

@@ -11,7 +11,7 @@ use Rattle.octets.specs.Sets.{isBlank, isDigit, isLetter, isToken, isPlain, isE
 use Rattle.octets.specs.Fold.{fold, sameFolded}
 use Rattle.octets.specs.Text.{octets}
 use Rattle.grammar.specs.Grammar.{rfc8288}
-use Rattle.grammar.proofs.Editions.{apart8288}
+use Rattle.grammar.proofs.Editions.{admissible8288}
 use Rattle.grammar.proofs.Readings.{read-reading, unread-malformed}
 use Rattle.grammar.specs.Kept.{nameOf, isOnce}
 use Rattle.tables.specs.Meaning.{unescape, valueOf}
@@ -57,8 +57,8 @@ pub premise-needed : PremiseNeeded
 unfolding isBlank isDigit isLetter isToken isPlain isEscapable isTarget isHex
 premise-needed =
     record {
-      first = unread-malformed rfc8288 apart8288 (octets "<a>;t=\"b") refl;
-      second = unread-malformed rfc8288 apart8288 (octets "c\"") refl;
+      first = unread-malformed rfc8288 admissible8288 (octets "<a>;t=\"b") refl;
+      second = unread-malformed rfc8288 admissible8288 (octets "c\"") refl;
       links = _;
-      joined = read-reading rfc8288 apart8288 (octets "<a>;t=\"b,c\"") _ refl;
+      joined = read-reading rfc8288 admissible8288 (octets "<a>;t=\"b,c\"") _ refl;
     }

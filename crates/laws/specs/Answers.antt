@@ -5,7 +5,7 @@ use mathlib.Core.Path.{_≡_}
 use mathlib.Core.Logic.{_⊎_}
 use mathlib.Core.List.{List, [], _∷_, _++_, map}
 use lib.ListN.{length, take, drop}
-use Rattle.grammar.specs.Records.{linkRoom, paramRoom}
+use Rattle.grammar.specs.Records.{linkWidth, paramWidth, linkRoom, paramRoom}
 use Rattle.grammar.specs.Join.{Padded, padded, join, raiseLinks, raiseParams}
 use Rattle.tables.specs.Table.{Table}
 use Rattle.tables.specs.Meaning.{tableMeanings}
@@ -36,11 +36,11 @@ abbrev pub joinOf : List Accepted → List ℕ
 joinOf hs = join (pads hs)
 
 -- the records that reading the header alone gave
-abbrev pub linksOf : Accepted → List ℕ
-linksOf a = take (4 * a .alone .out .links) (a .alone .out .linkSlots)
+abbrev pub linkRecordsOf : Accepted → List ℕ
+linkRecordsOf a = take (linkWidth * a .alone .out .links) (a .alone .out .linkSlots)
 
-abbrev pub paramsOf : Accepted → List ℕ
-paramsOf a = take (5 * a .alone .out .params) (a .alone .out .paramSlots)
+abbrev pub paramRecordsOf : Accepted → List ℕ
+paramRecordsOf a = take (paramWidth * a .alone .out .params) (a .alone .out .paramSlots)
 
 -- the sums of the counts that the headers answer alone
 abbrev pub linkSum : List Accepted → ℕ
@@ -56,13 +56,13 @@ paramSum (a ∷ hs) = a .alone .out .params + paramSum hs
 abbrev pub joinedLinks : ℕ → ℕ → List Accepted → List ℕ
 joinedLinks k m [] = []
 joinedLinks k m (a ∷ hs) =
-    raiseLinks (k + length (a .alone .pad .left)) m (linksOf a)
+    raiseLinks (k + length (a .alone .pad .left)) m (linkRecordsOf a)
     ++ joinedLinks (k + length (padded (a .alone .pad)) + 1) (m + a .alone .out .params) hs
 
 abbrev pub joinedParams : ℕ → List Accepted → List ℕ
 joinedParams k [] = []
 joinedParams k (a ∷ hs) =
-    raiseParams (k + length (a .alone .pad .left)) (paramsOf a)
+    raiseParams (k + length (a .alone .pad .left)) (paramRecordsOf a)
     ++ joinedParams (k + length (padded (a .alone .pad)) + 1) hs
 
 -- a join of accepted headers, of at most 8,192 octets, read in room for the sums, answers 0, the sums and these records
@@ -76,8 +76,8 @@ JoinAnswers =
       place = 0;
       links = linkSum hs;
       params = paramSum hs;
-      linkSlots = joinedLinks 0 0 hs ++ drop (4 * linkSum hs) L;
-      paramSlots = joinedParams 0 hs ++ drop (5 * paramSum hs) P;
+      linkSlots = joinedLinks 0 0 hs ++ drop (linkWidth * linkSum hs) L;
+      paramSlots = joinedParams 0 hs ++ drop (paramWidth * paramSum hs) P;
     }
 
 -- a malformed header: reading it answers 2
@@ -96,15 +96,15 @@ octetsBefore (a ∷ hs) b = length (padded (a .alone .pad)) + 1 + octetsBefore h
 
 -- The place that it answers alone lies inside it, or no octet of the join stands behind it. (What is behind a header that is cut short
 -- may go on with what that began: blanks do so inside quotes, and the comma in a target.)
-abbrev pub Shown : Rejected → List Accepted → Type 0
-Shown b gs =
+abbrev pub PlaceSettled : Rejected → List Accepted → Type 0
+PlaceSettled b gs =
     (b .alone .out .place < length (b .alone .pad .header)) ⊎ ((b .alone .pad .right ≡ []) × (gs ≡ []))
 
 -- number 2, zero counts, the tables as they were; the place is raised by the octets before, or lies behind that
 pub record JoinRefused (hs : List Accepted) (b : Rejected) (gs : List Accepted) (L P : List ℕ) (r : ReadOut) : Type 0 where
   pub answer : r ≡ refused L P malformedHeader (r .place)
   pub not-before : octetsBefore hs b + b .alone .out .place ≤ r .place
-  pub place : Shown b gs → r .place ≡ octetsBefore hs b + b .alone .out .place
+  pub place : PlaceSettled b gs → r .place ≡ octetsBefore hs b + b .alone .out .place
 
 -- a join with one malformed header among accepted ones, of at most 8,192 octets, is malformed in whatever tables
 abbrev pub JoinRefuses : Type 0
@@ -115,14 +115,14 @@ JoinRefuses =
 -- ---- reading back
 
 -- an accepted table: writing it, in some buffer, answers 0
-pub record Wrote (t : Table) : Type 0 where
+pub record AcceptedTable (t : Table) : Type 0 where
   pub buffer : List ℕ
   pub out : CopyOut
   pub answered : Write t buffer out
   pub accepted : out .number ≡ done
 
 -- the octets written, as many as answered
-abbrev pub octetsOf : {t : Table} → Wrote t → List ℕ
+abbrev pub octetsOf : {t : Table} → AcceptedTable t → List ℕ
 octetsOf w = take (w .out .count) (w .out .buffer)
 
 -- the table that reading the text s filled
@@ -139,7 +139,7 @@ readTable s r =
 -- they are read, in room for the table's counts, to the same counts and an equal list of link meanings
 abbrev pub BackAnswers : Type 0
 BackAnswers =
-    (t : Table) (w : Wrote t) (L P : List ℕ) → t .linkCount ≤ linkRoom L → t .paramCount ≤ paramRoom P
+    (t : Table) (w : AcceptedTable t) (L P : List ℕ) → t .linkCount ≤ linkRoom L → t .paramCount ≤ paramRoom P
     → (r : ReadOut) → Read (octetsOf w) L P r
     → (r .number ≡ done) × (r .links ≡ t .linkCount) × (r .params ≡ t .paramCount)
     × (tableMeanings (readTable (octetsOf w) r) ≡ tableMeanings t)
@@ -147,4 +147,4 @@ BackAnswers =
 -- tables that differ in their lists of link meanings never share their octets
 abbrev pub WrittenApart : Type 0
 WrittenApart =
-    (t u : Table) (w : Wrote t) (x : Wrote u) → octetsOf w ≡ octetsOf x → tableMeanings t ≡ tableMeanings u
+    (t u : Table) (w : AcceptedTable t) (x : AcceptedTable u) → octetsOf w ≡ octetsOf x → tableMeanings t ≡ tableMeanings u

@@ -14,7 +14,7 @@ use Rattle.tables.specs.Table.{Table}
 use Rattle.outcomes.specs.Number.{done, noSuchLink, notFound}
 use Rattle.outcomes.specs.Context.{of-text, of-base, nothing, Context}
 use Rattle.outcomes.specs.Copy.{untouched, holding, Copy}
-use Rattle.laws.specs.Row.{recordedTable, Holds}
+use Rattle.laws.specs.Row.{recordedTable, RowHolds}
 use Rattle.laws.specs.Marked.{marked}
 use Rattle.laws.specs.Slips.{slips}
 
@@ -28,11 +28,11 @@ fifth = recordedTable (octets "<a>;REL=Next;rel=prev") (1 ∷ 2 ∷ 0 ∷ 1 ∷ 
 
 -- every marked header is as it was read by hand
 abbrev pub MarkedHold : Type 0
-MarkedHold = Each Holds marked
+MarkedHold = Each RowHolds marked
 
 -- so is every header at which readers elsewhere slip
 abbrev pub SlipsHold : Type 0
-SlipsHold = Each Holds slips
+SlipsHold = Each RowHolds slips
 
 -- Of the third marked header: the context of its link is the `anchor` value as written, and its values are copied with their octets
 -- alone. Of the fifth: a link without `anchor` has the whole base.

@@ -2,7 +2,7 @@
 use Prim.Native.Nat.{ℕ, _/_, _≤_}
 use mathlib.Core.List.{List, [], _∷_, _++_}
 use lib.ListN.{length, drop}
-use Rattle.grammar.specs.Records.{linkRoom, paramRoom}
+use Rattle.grammar.specs.Records.{linkWidth, paramWidth, linkRoom, paramRoom}
 use Rattle.tables.specs.Table.{Table}
 use Rattle.tables.specs.Good.{Each}
 use Rattle.outcomes.specs.Number.{done, malformedHeader}
@@ -29,7 +29,7 @@ pub record Row : Type 0 where
 -- the table that holds these records and no more
 abbrev pub recordedTable : List ℕ → List ℕ → List ℕ → Table
 recordedTable h ls ps =
-    record { text = h; linkSlots = ls; paramSlots = ps; linkCount = length ls / 4; paramCount = length ps / 5 }
+    record { text = h; linkSlots = ls; paramSlots = ps; linkCount = length ls / linkWidth; paramCount = length ps / paramWidth }
 
 abbrev pub Writes : Table → Writing → Type 0
 Writes t (writes f) = (out : List ℕ) → length f ≤ length out → Write t out (holding out f)
@@ -37,13 +37,13 @@ Writes t (answers n) = (out : List ℕ) → Write t out (untouched out n)
 
 -- in any tables with room reading fills in the records, and leaves the slots behind them as they were
 pub record ReadHolds (h ls ps : List ℕ) (qs : List (List ℕ)) (w : Writing) : Type 0 where
-  pub fills : (L P : List ℕ) → length ls / 4 ≤ linkRoom L → length ps / 5 ≤ paramRoom P
+  pub fills : (L P : List ℕ) → length ls / linkWidth ≤ linkRoom L → length ps / paramWidth ≤ paramRoom P
       → Read h L P
       (record {
         number = done;
         place = 0;
-        links = length ls / 4;
-        params = length ps / 5;
+        links = length ls / linkWidth;
+        params = length ps / paramWidth;
         linkSlots = ls ++ drop (length ls) L;
         paramSlots = ps ++ drop (length ps) P;
       })
@@ -54,5 +54,5 @@ abbrev pub Judged : List ℕ → Judgement → Type 0
 Judged h (reads ls ps qs w) = ReadHolds h ls ps qs w
 Judged h (malformed k) = (L P : List ℕ) → Read h L P (refused L P malformedHeader k)
 
-abbrev pub Holds : Row → Type 0
-Holds r = Judged (r .header) (r .judgement)
+abbrev pub RowHolds : Row → Type 0
+RowHolds r = Judged (r .header) (r .judgement)

@@ -63,7 +63,7 @@ module _ {L P : List ℕ} {n m i : ℕ} where
 -- what reading answers with number 0 is held
 read-held : {h L P : List ℕ} {o : ReadOut} → Read h L P o → o .number ≡ 0 → Held (o .linkSlots) (o .paramSlots) (o .links) (o .params)
 read-held (too-long a) e = absurd (omega (arith, e))
-read-held (not-derived a b c) e = absurd (omega (arith, e))
+read-held (not-derived a b) e = absurd (omega (arith, e))
 read-held (no-link-room a b c) e = absurd (omega (arith, e))
 read-held (no-param-room a b c d) e = absurd (omega (arith, e))
 read-held (reads a b c d) e =

@@ -18,7 +18,7 @@ use Rattle.tables.specs.Table.{Table, paramsFrom}
 use Rattle.tables.specs.Relation.{named}
 use Rattle.tables.specs.Good.{GoodParam}
 use Rattle.outcomes.specs.Usable.{Usable}
-use Rattle.outcomes.specs.Context.{handed, anchor, Context, anchored, unanchored}
+use Rattle.outcomes.specs.Context.{contextOctets, anchor, Context, anchored, unanchored}
 use Rattle.lookup.proofs.Walking.{params-of}
 use Rattle.lookup.specs.Answers.{contextOut}
 use Rattle.lookup.specs.Part.{Within, IsContext, beginsAt, HandsBack}
@@ -49,7 +49,7 @@ module _ {t : Table} {i : ℕ} {a x : ContextAnswer} (h : IsContext t i a) (e : 
   pub told-outcome : (base : List ℕ) → Context t base i (contextOut base x)
   told-outcome base = subst (λ y. Context t base i (contextOut base y)) e (h .outcome base)
 
-  pub hands : (text base : RefT (List ℕ)) {r : RefT (List ℕ)} → r .now ≡ handed (t .text) (base .now) (contextOut (base .now) x)
+  pub hands : (text base : RefT (List ℕ)) {r : RefT (List ℕ)} → r .now ≡ contextOctets (t .text) (base .now) (contextOut (base .now) x)
       → r .ptr ≡ beginsAt text base (contextOut (base .now) x) → HandsBack t i text base r
   hands text base q p =
       record {

@@ -4,15 +4,15 @@ use mathlib.Core.Path.{_≡_}
 use denote.Ref.{RefT}
 use mathlib.Core.List.{List}
 use Rattle.tables.specs.Table.{Table}
-use Rattle.tables.specs.Good.{Span}
-use Rattle.outcomes.specs.Context.{Context, ContextOut, of-text, of-base, handed}
+use Rattle.tables.specs.Good.{InText}
+use Rattle.outcomes.specs.Context.{Context, ContextOut, of-text, of-base, contextOctets}
 use Rattle.lookup.specs.Answers.{contextOut}
 use Rattle.lookup.specs.declared.ContextAnswer.{ContextAnswer}
 use Rattle.lookup.specs.declared.ContextAnswer.the-variants.{Anchored, Base, TooLong, BadTable, NoSuchLink}
 
 -- a part of the text lies in it
 abbrev pub Within : List ℕ → ContextAnswer → Type 0
-Within s (Anchored p) = Span s (p .from .0) (p .to .0)
+Within s (Anchored p) = InText s (p .from .0) (p .to .0)
 Within s Base = Unit
 Within s TooLong = Unit
 Within s BadTable = Unit
@@ -31,5 +31,5 @@ beginsAt text base o =
 pub record HandsBack (t : Table) (i : ℕ) (text base r : RefT (List ℕ)) : Type 0 where
   pub out : ContextOut
   pub outcome : Context t (base .now) i out
-  pub octets : r .now ≡ handed (t .text) (base .now) out
+  pub octets : r .now ≡ contextOctets (t .text) (base .now) out
   pub place : r .ptr ≡ beginsAt text base out

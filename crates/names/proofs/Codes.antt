@@ -10,8 +10,7 @@ use lib.ListN.{length, getD}
 use borrow.Author.Tests.{eqb-true, eqb-false, ne-eqb}
 use Rattle.octets.specs.Fold.{same}
 use Rattle.octets.proofs.Laws.{same-sound}
-use Rattle.grammar.specs.Kept.{among, onceNames, isOnce}
-use Rattle.names.specs.Code.{codeFrom, codeOf}
+use Rattle.grammar.specs.Kept.{among, onceNames, isOnce, codeFrom, codeOf}
 
 -- of the names ms, numbered from 1 + k on
 module _ (n : List ℕ) where

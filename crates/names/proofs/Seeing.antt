@@ -9,8 +9,7 @@ use borrow.Author.Tests.{eq-eqb, ne-eqb, ltb-true}
 use Rattle.octets.specs.Fold.{same}
 use Rattle.octets.proofs.Octets.{every, every-at, agree, agreed}
 use Rattle.octets.proofs.Laws.{same-sound, same-refl}
-use Rattle.grammar.specs.Kept.{among, isOnce}
-use Rattle.names.specs.Code.{codeOf}
+use Rattle.grammar.specs.Kept.{among, isOnce, codeOf}
 use Rattle.names.specs.Holds.{noneSeen, hasCode, withCode, Holds}
 use Rattle.names.specs.declared.Seen.{Seen}
 use Rattle.names.proofs.Codes.{once-code, code-bound, same-code}

@@ -5,8 +5,7 @@ use mathlib.Core.Bool.{Bool, not, _&&_}
 use mathlib.Core.List.{List}
 use lib.Bits.{bitOr}
 use lib.Dec.{eqb}
-use Rattle.grammar.specs.Kept.{among, isOnce}
-use Rattle.names.specs.Code.{codeOf}
+use Rattle.grammar.specs.Kept.{among, isOnce, codeOf}
 use Rattle.names.specs.declared.Seen.{Seen}
 
 unfoldable pub noneSeen : Seen

@@ -4,9 +4,9 @@ ghost use Prim.Native.Nat.{_≤_};
 ghost use lib.ListN.{length};
 ghost use lib.Seq.{slice};
 ghost use Rattle.octets.specs.Fold.{folded};
-ghost use Rattle.names.specs.Code.{codeOf};
+ghost use Rattle.grammar.specs.Kept.{codeOf};
 ghost use Rattle.names.specs.Holds.{noneSeen, hasCode, withCode};
-use octets::compare::same_folded;
+use folding::same_folded;
 
 // Which of the six names stood earlier in a link: the bit of a name's code is set.
 pub struct Seen {

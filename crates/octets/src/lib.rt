@@ -1,4 +1,3 @@
-// Octets: the sets that the grammar names, and comparison of texts with A to Z read as a to z.
+// Octets: a test for each set that the grammar names.
 mod bits;
-pub mod compare;
 pub mod sets;

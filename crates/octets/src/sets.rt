@@ -2,6 +2,7 @@
 // and no branch that depends on which octet of the set it is.
 ghost use mathlib.Core.Path.{_≡_};
 ghost use Rattle.octets.specs.Sets.{isBlank, isToken, isPlain, isEscapable, isTarget, isHex};
+ghost use Rattle.octets.specs.Member.{isIn};
 use crate::bits::in_bits;
 
 // SP or HTAB.
@@ -40,6 +41,26 @@ pub fn is_target(c: u8) -> bool
     ensures { λ r. ⌜ r ≡ isTarget c ⌝ }
 {
     in_bits(0xafff_ffda_0000_0000, 0x47ff_fffe_afff_ffff, c)
+}
+
+// The sets whose runs a cursor passes.
+pub enum Set {
+    Blank,
+    Token,
+    Target,
+    Plain,
+}
+
+// Whether the octet is in the set.
+pub fn is_in(set: Set, c: u8) -> bool
+    ensures { λ r. ⌜ r ≡ isIn set c ⌝ }
+{
+    match set {
+        Set::Blank => is_blank(c),
+        Set::Token => is_token(c),
+        Set::Target => is_target(c),
+        Set::Plain => is_plain(c),
+    }
 }
 
 // A hex digit of either case.

@@ -8,7 +8,7 @@ use Rattle.grammar.specs.Grammar.{rfc8288}
 use Rattle.grammar.specs.Kept.{Reading}
 use Rattle.grammar.specs.Records.{linkRoom, paramRoom, countParams}
 use Rattle.grammar.specs.Place.{Malformed}
-use Rattle.grammar.proofs.Editions.{apart8288}
+use Rattle.grammar.proofs.Editions.{admissible8288}
 use Rattle.grammar.proofs.Readings.{one-reading, decided}
 use Rattle.grammar.proofs.Prefix.{one-place}
 use Rattle.outcomes.specs.Number.{limit, tooLong, malformedHeader, noLinkRoom, noParamRoom}
@@ -18,7 +18,7 @@ use Rattle.outcomes.proofs.Cases.{Branch, this, that, Order, only, bran
 
 -- the place that is answered of a malformedHeader header
 abbrev place : List ℕ → ℕ
-place h = one-place rfc8288 apart8288 h .0
+place h = one-place rfc8288 admissible8288 h .0
 
 module _ (h L P : List ℕ) where
   -- what is answered where the links K are read
@@ -37,8 +37,8 @@ module _ (h L P : List ℕ) where
 
   cases : (q : ReadOut) → Read h L P q → Cases q
   cases _ (too-long l) = that l refl
-  cases _ (not-derived {k} s m p) =
-      this s (that m (ap (refused L P malformedHeader) (one-place rfc8288 apart8288 h .2 k p)))
+  cases _ (not-derived {k} s m) =
+      this s (that (m .malformed) (ap (refused L P malformedHeader) (one-place rfc8288 admissible8288 h .2 k (m .place))))
   cases _ (no-link-room s r l) = this s (this (_, r) (that l refl))
   cases _ (no-param-room s r f l) = this s (this (_, r) (this f (that l refl)))
   cases _ (reads s r f g) = this s (this (_, r) (this f (this g refl)))
@@ -47,10 +47,10 @@ pub read-settled : ReadSettled
 read-settled h L P =
     settled (cases h L P)
     (order
-    (λ s. branch (decided rfc8288 apart8288 h) (λ r m. m (r .1 .links) (r .1 .derived))
-    (λ r k q f. subst (λ K. Fits h L P K q) (one-reading rfc8288 apart8288 h _ _ (k .1) (r .1)) f)
+    (λ s. branch (decided rfc8288 admissible8288 h) (λ r m. m (r .1 .links) (r .1 .derived))
+    (λ r k q f. subst (λ K. Fits h L P K q) (one-reading rfc8288 admissible8288 h _ _ (k .1) (r .1)) f)
     (λ r. order
     (λ f. order (λ g. only (reads s (r .1) f g)) (λ l. only (no-param-room s (r .1) f l)))
     (λ l. only (no-link-room s (r .1) l)))
-    (λ m. only (not-derived s m (one-place rfc8288 apart8288 h .1))))
+    (λ m. only (not-derived s (record { malformed = m; place = one-place rfc8288 admissible8288 h .1 }))))
     (λ l. only (too-long l)))

@@ -6,7 +6,7 @@ use mathlib.Core.List.{List, _++_}
 use lib.ListN.{length, drop}
 use lib.Seq.{drop-at, drop-append-seam}
 use Rattle.grammar.specs.Link.{Link}
-use Rattle.grammar.specs.Records.{linkRecords, paramRecords, countParams}
+use Rattle.grammar.specs.Records.{linkWidth, paramWidth, linkRecords, paramRecords, countParams}
 use Rattle.tables.specs.Table.{Table}
 use Rattle.tables.proofs.Filled.{link-records-length, param-records-length}
 use Rattle.outcomes.specs.Number.{done}
@@ -30,7 +30,7 @@ plainly L P n z =
 
 read : (h L P : List ℕ) (o : Reading.ReadOut) → Reading.Read h L P o → ReadKeeps L P o
 read h L P _ (Reading.too-long l) = plainly L P 1 (λ e. omega arith)
-read h L P _ (Reading.not-derived s m p) =
+read h L P _ (Reading.not-derived s m) =
     record {
       refused = λ _. (refl, refl, refl, refl);
       place = λ n. absurd (n refl);
@@ -43,8 +43,8 @@ read h L P _ (Reading.reads {K = K} s r l m) =
     record {
       refused = λ n. absurd (n refl);
       place = λ _. refl;
-      behind-links = λ _. drop-at (linkRecords 0 K) (drop (4 * length K) L) (4 * length K) (link-records-length 0 K);
-      behind-params = λ _. drop-at (paramRecords K) (drop (5 * countParams K) P) (5 * countParams K) (param-records-length K);
+      behind-links = λ _. drop-at (linkRecords 0 K) (drop (linkWidth * length K) L) (linkWidth * length K) (link-records-length 0 K);
+      behind-params = λ _. drop-at (paramRecords K) (drop (paramWidth * countParams K) P) (paramWidth * countParams K) (param-records-length K);
     }
 
 -- a table that is refused is refused with no 0

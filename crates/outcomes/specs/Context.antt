@@ -27,8 +27,8 @@ abbrev pub nothing : ℕ → ContextOut
 nothing n = record { number = n; source = of-base; start = 0; end = 0 }
 
 -- the octets handed back: a part of the text or a part of the base
-abbrev pub handed : List ℕ → List ℕ → ContextOut → List ℕ
-handed text base o = elim (o .source) [ of-text ↦ slice (o .start) (o .end) text | of-base ↦ slice (o .start) (o .end) base ]
+abbrev pub contextOctets : List ℕ → List ℕ → ContextOut → List ℕ
+contextOctets text base o = elim (o .source) [ of-text ↦ slice (o .start) (o .end) text | of-base ↦ slice (o .start) (o .end) base ]
 
 -- the `anchor` parameter of link number i, if it has one
 abbrev pub anchor : Table → ℕ → Option Param

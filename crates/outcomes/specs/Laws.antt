@@ -3,6 +3,7 @@ use Prim.Native.Nat.{ℕ, _*_}
 use mathlib.Core.Path.{_≡_}
 use mathlib.Core.List.{List}
 use lib.ListN.{drop}
+use Rattle.grammar.specs.Records.{linkWidth, paramWidth}
 use Rattle.tables.specs.Table.{Table}
 use Rattle.outcomes.specs.Number.{done, malformedHeader}
 use Rattle.outcomes.specs.Read.{ReadOut, Read}
@@ -21,8 +22,8 @@ pub record ReadKeeps (L P : List ℕ) (o : ReadOut) : Type 0 where
   pub refused : (o .number ≡ done → ⊥)
       → (o .links ≡ 0) × (o .params ≡ 0) × (o .linkSlots ≡ L) × (o .paramSlots ≡ P)
   pub place : (o .number ≡ malformedHeader → ⊥) → o .place ≡ 0
-  pub behind-links : o .number ≡ done → drop (4 * o .links) (o .linkSlots) ≡ drop (4 * o .links) L
-  pub behind-params : o .number ≡ done → drop (5 * o .params) (o .paramSlots) ≡ drop (5 * o .params) P
+  pub behind-links : o .number ≡ done → drop (linkWidth * o .links) (o .linkSlots) ≡ drop (linkWidth * o .links) L
+  pub behind-params : o .number ≡ done → drop (paramWidth * o .params) (o .paramSlots) ≡ drop (paramWidth * o .params) P
 
 pub record CopyKeeps (out : List ℕ) (o : CopyOut) : Type 0 where
   pub refused : (o .number ≡ done → ⊥) → (o .count ≡ 0) × (o .buffer ≡ out)

@@ -5,8 +5,8 @@ use lib.ListN.{length, drop}
 use Rattle.grammar.specs.Link.{Link}
 use Rattle.grammar.specs.Grammar.{rfc8288}
 use Rattle.grammar.specs.Kept.{Reading}
-use Rattle.grammar.specs.Records.{linkRoom, paramRoom, countParams, linkRecords, paramRecords}
-use Rattle.grammar.specs.Place.{Malformed, Place}
+use Rattle.grammar.specs.Records.{linkWidth, paramWidth, linkRoom, paramRoom, countParams, linkRecords, paramRecords}
+use Rattle.grammar.specs.Place.{MalformedAt}
 use Rattle.outcomes.specs.Number.{limit, done, tooLong, malformedHeader, noLinkRoom, noParamRoom}
 
 -- the four numbers answered, and what both tables hold afterwards
@@ -30,15 +30,15 @@ filled L P K =
       place = 0;
       links = length K;
       params = countParams K;
-      linkSlots = linkRecords 0 K ++ drop (4 * length K) L;
-      paramSlots = paramRecords K ++ drop (5 * countParams K) P;
+      linkSlots = linkRecords 0 K ++ drop (linkWidth * length K) L;
+      paramSlots = paramRecords K ++ drop (paramWidth * countParams K) P;
     }
 
 -- the header h, with tables that hold L and P
 module _ (h L P : List ℕ) where
   pub data Read : ReadOut → Type 0 where
     too-long : limit < length h → Read (refused L P tooLong 0)
-    not-derived : {k : ℕ} → length h ≤ limit → Malformed rfc8288 h → Place rfc8288 h k → Read (refused L P malformedHeader k)
+    not-derived : {k : ℕ} → length h ≤ limit → MalformedAt rfc8288 h k → Read (refused L P malformedHeader k)
     no-link-room : {K : List Link} → length h ≤ limit → Reading rfc8288 h K → linkRoom L < length K
         → Read (refused L P noLinkRoom 0)
     no-param-room : {K : List Link} → length h ≤ limit → Reading rfc8288 h K → length K ≤ linkRoom L

@@ -8,7 +8,7 @@ use Rattle.grammar.specs.Link.{Link}
 use Rattle.grammar.specs.Grammar.{rfc8288}
 use Rattle.grammar.specs.Kept.{Reading}
 use Rattle.grammar.specs.Records.{countParams, linkRoom, paramRoom}
-use Rattle.grammar.proofs.Editions.{apart8288}
+use Rattle.grammar.proofs.Editions.{admissible8288}
 use Rattle.grammar.proofs.Readings.{one-reading}
 use Rattle.outcomes.specs.Number.{limit, done, malformedHeader, noLinkRoom, noParamRoom}
 use Rattle.outcomes.specs.Read.{Read, not-derived, no-link-room, no-param-room, reads}
@@ -24,7 +24,7 @@ module _ {s : List ℕ} {r : HeaderScan} (L P : List ℕ) (short : length s ≤ 
   is-malformed e = go (subst (HeaderScanned s) e c)
     where
       go : {p : Place} → HeaderScanned s (Malformed p) → Read s L P (outOf malformedHeader (p .0) 0 0 L P)
-      go (malformed-at h) = not-derived short (h .malformed) (h .place)
+      go (malformed-at h) = not-derived short h
 
   module _ {n m : ℕ} (e : r ≡ Counted n m) where
     counts : (K : List Link) × Reading rfc8288 s K × (n ≡ length K) × (m ≡ countParams K)
@@ -49,7 +49,7 @@ module _ {s : List ℕ} {r : HeaderScan} (L P : List ℕ) (short : length s ≤ 
         → Read s L P (outOf done 0 n m L′ P′)
     is-done {L′} {P′} h k f =
         let (K, d, x, y) = counts in
-        let same : K ≡ f .reading = one-reading rfc8288 apart8288 s K (f .reading) d (f .reads) in
+        let same : K ≡ f .reading = one-reading rfc8288 admissible8288 s K (f .reading) d (f .reads) in
         let a : n ≡ length (f .reading) = x ∙ ap length same in
         let b : m ≡ countParams (f .reading) = y ∙ ap countParams same in
         rw (a, b, f .links, f .params) (reads short (f .reads) (omega arith) (omega arith))

@@ -13,16 +13,15 @@ use Rattle.octets.specs.Sets.{isBlank}
 use Rattle.octets.specs.Fold.{folded}
 use Rattle.grammar.specs.Link.{Link, Param}
 use Rattle.grammar.specs.Grammar.{rfc8288, At, Field}
-use Rattle.grammar.specs.Kept.{nameOf, among, isOnce, unless, keepAfter, keptLink}
+use Rattle.grammar.specs.Kept.{nameOf, among, isOnce, unless, keepAfter, keptLink, codeOf}
 use Rattle.grammar.specs.Records.{countParams, recordsOf}
-use Rattle.grammar.proofs.Machine.{semi}
+use Rattle.grammar.specs.Machine.{semi}
 use Rattle.kinds.specs.Slots.{toParam, over, paramNumbers}
 use Rattle.kinds.specs.declared.ParamRecord.{ParamRecord}
 use Rattle.kinds.proofs.Stored.{over-then, over-none, over-length}
 use Rattle.cursor.specs.Passed.{Passed, Looked}
 use Rattle.cursor.specs.declared.Cursor.{Cursor}
 use Rattle.names.specs.declared.Seen.{Seen}
-use Rattle.names.specs.Code.{codeOf}
 use Rattle.names.specs.Holds.{noneSeen, hasCode, withCode}
 use Rattle.names.proofs.Seeing.{has-told}
 use Rattle.scanner.specs.Stands.{Stands, Ready}

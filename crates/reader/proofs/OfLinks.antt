@@ -9,7 +9,7 @@ use Rattle.grammar.specs.Link.{Link}
 use Rattle.grammar.specs.Grammar.{At, Target}
 use Rattle.grammar.specs.Kept.{keepAfter, keptLink}
 use Rattle.grammar.specs.Records.{recordsOf}
-use Rattle.grammar.proofs.Machine.{opened}
+use Rattle.grammar.specs.Machine.{opened}
 use Rattle.kinds.specs.Slots.{over}
 use Rattle.scanner.specs.Stands.{Ready}
 use Rattle.scanner.specs.Known.{KnownTarget}

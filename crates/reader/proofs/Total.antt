@@ -14,7 +14,7 @@ use Rattle.grammar.specs.Link.{Link, Param}
 use Rattle.grammar.specs.Grammar.{rfc8288, At, Field}
 use Rattle.grammar.specs.Kept.{nameOf, keepAfter, keptLink}
 use Rattle.grammar.specs.Records.{countParams}
-use Rattle.grammar.proofs.Machine.{State, gap, target, after, semi, dead, run, step, Open, next, close}
+use Rattle.grammar.specs.Machine.{State, gap, target, after, semi, dead, run, step, Open, next, close}
 use Rattle.grammar.proofs.Rest.{
   whole,
   Rest,
@@ -34,7 +34,7 @@ use Rattle.grammar.proofs.Rest.{
 }
 use Rattle.grammar.proofs.Prefix.{isDead}
 use Rattle.grammar.proofs.Forward.{forward}
-use Rattle.grammar.proofs.Editions.{apart8288}
+use Rattle.grammar.proofs.Editions.{admissible8288}
 use Rattle.grammar.proofs.Readings.{one-derived}
 use Rattle.grammar.proofs.Raise.{map-reverseAux}
 use Rattle.scanner.specs.Stands.{Stands, Ready}
@@ -74,7 +74,7 @@ module _ {s : List ℕ} {R : List Link} (f : Field rfc8288 s R) where
   rest-at (suc i) h =
       let here : Stands s (run rfc8288 (gap []) 0 (take i s)) i = record { inside = omega arith; is = refl } in
       subst (λ (x : State). Rest rfc8288 s x (suc i) R) (sym (stands-step here h .is))
-      (forward rfc8288 apart8288 s h (rest-at i (omega arith)))
+      (forward rfc8288 admissible8288 s h (rest-at i (omega arith)))
 
   -- what the grammar still asks where the machine stands
   pub stands-rest : {st : State} {i : ℕ} → Stands s st i → Rest rfc8288 s st i R
@@ -92,7 +92,7 @@ module _ {s : List ℕ} {R : List Link} (f : Field rfc8288 s R) where
       go false false true (r-gap {R = Q} g) = ([], Q, refl)
 
       test : Dec (length s ≤ i) → (ps : List Param) × (Q : List Link) × (R ≡ whole o ps Q)
-      test (yes h) = ([], [], one-derived rfc8288 apart8288 s f (finishes (r .stands) h (r .settles)))
+      test (yes h) = ([], [], one-derived rfc8288 admissible8288 s f (finishes (r .stands) h (r .settles)))
       test (no h) =
           let l : i < length s = omega arith in
           go (isBlank (getD s i 0)) (eqb (getD s i 0) 59) (eqb (getD s i 0) 44)

@@ -15,10 +15,10 @@ use Rattle.grammar.specs.Link.{Link, Param}
 use Rattle.grammar.specs.Grammar.{rfc8288, At, Field}
 use Rattle.grammar.specs.Kept.{keptLink, keepAfter, Reading}
 use Rattle.grammar.specs.Records.{countParams, recordsOf, linkRecords, paramRecords}
-use Rattle.grammar.proofs.Machine.{State, gap, target, step, dead}
+use Rattle.grammar.specs.Machine.{State, gap, target, step, dead}
 use Rattle.grammar.proofs.Rest.{Rest, r-gap}
 use Rattle.grammar.proofs.Raise.{map-reverseAux}
-use Rattle.grammar.proofs.Editions.{apart8288}
+use Rattle.grammar.proofs.Editions.{admissible8288}
 use Rattle.grammar.proofs.Readings.{one-derived}
 use Rattle.grammar.proofs.Joining.{link-records-append, param-records-append}
 use Rattle.tables.proofs.Filled.{link-records-length, param-records-length, records-length}

@@ -9,7 +9,7 @@ use Rattle.grammar.specs.Link.{Link, Param}
 use Rattle.grammar.specs.Grammar.{rfc8288, At, Field}
 use Rattle.grammar.specs.Kept.{keepAfter, keptLink, Reading}
 use Rattle.grammar.specs.Records.{countParams, recordsOf, linkRecords, paramRecords, linkRoom, paramRoom}
-use Rattle.grammar.proofs.Machine.{opened, target}
+use Rattle.grammar.specs.Machine.{opened, target}
 use Rattle.cursor.specs.Passed.{Passed}
 use Rattle.kinds.specs.Slots.{over}
 use Rattle.scanner.specs.Stands.{Stands, Ready}

@@ -31,11 +31,12 @@ use Rattle.grammar.specs.Grammar.{
   Field,
 }
 use Rattle.grammar.proofs.Classes.{plain-not-quote, plain-not-backslash}
-use Rattle.grammar.proofs.Machine.{State, target, percent, hex, quote, escape, dead, step, settle, Open}
+use Rattle.grammar.specs.Machine.{State, target, percent, hex, quote, escape, dead, step, settle, Open}
 use Rattle.grammar.proofs.Prefix.{isDead}
 use Rattle.tables.proofs.Texts.{run-le, inside-le}
 use Rattle.cursor.specs.Passed.{Looked}
-use Rattle.scanner.specs.Stands.{Stands, Halts}
+use Rattle.grammar.specs.Place.{MalformedAt}
+use Rattle.scanner.specs.Stands.{Stands}
 use Rattle.scanner.specs.Known.{Known, KnownTarget, KnownQuoted}
 use Rattle.scanner.proofs.Standing.{stands-on, halts-at, halts-end}
 
@@ -53,7 +54,7 @@ pub record Unquoted (s : List ℕ) (i : ℕ) : Type 0 where
 
 module _ {s : List ℕ} {R : List Link} (f : Field rfc8288 s R) where
   -- a header that is derived does not halt
-  pub goes-on : {A : Type 0} {i : ℕ} → Halts s i → A
+  pub goes-on : {A : Type 0} {i : ℕ} → MalformedAt rfc8288 s i → A
   goes-on h = absurd (h .malformed R f)
 
   -- an octet of the set g must stand here

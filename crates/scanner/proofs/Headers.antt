@@ -14,7 +14,7 @@ use Rattle.grammar.specs.Link.{Link}
 use Rattle.grammar.specs.Grammar.{At, Field, rfc8288}
 use Rattle.grammar.specs.Kept.{keptLink, keepAfter, Reading}
 use Rattle.grammar.specs.Records.{countParams}
-use Rattle.grammar.proofs.Machine.{gap, target, close}
+use Rattle.grammar.specs.Machine.{gap, target, close}
 use Rattle.grammar.proofs.Raise.{map-reverseAux}
 use Rattle.kinds.specs.declared.Place.{Place}
 use Rattle.cursor.specs.Passed.{Passed, Looked}
@@ -22,7 +22,8 @@ use Rattle.cursor.specs.declared.Cursor.{Cursor}
 use Rattle.scanner.specs.declared.LinkScan.{LinkScan}
 use Rattle.scanner.specs.declared.LinkScan.the-variants.{NoLink, Whole}
 use Rattle.scanner.specs.declared.HeaderScan.the-variants.{Malformed, Counted}
-use Rattle.scanner.specs.Stands.{Stands, Halts}
+use Rattle.grammar.specs.Place.{MalformedAt}
+use Rattle.scanner.specs.Stands.{Stands}
 use Rattle.scanner.specs.Linked.{WholeLink, LinkScanned, no-link, a-link, HeaderScanned, malformed-at, counted}
 use Rattle.scanner.proofs.Standing.{stands-start, stands-on, stands-run, halts-at, finishes}
 use Rattle.scanner.proofs.Links.{linkOf, link-ready, link-forward, ready-comma}

@@ -10,12 +10,13 @@ use borrow.Author.Tests.{not-true, not-false, ne-eqb}
 use Rattle.octets.specs.Sets.{isPlain, isEscapable}
 use Rattle.grammar.specs.Grammar.{rfc8288, At, In, Run, run-end, run-more, Inside, inside-end, plain, pair}
 use Rattle.grammar.proofs.Classes.{plain-not-quote, plain-not-backslash}
-use Rattle.grammar.proofs.Machine.{State, quote, escape, step, Open}
+use Rattle.grammar.specs.Machine.{State, quote, escape, step, Open}
 use Rattle.cursor.specs.Passed.{Passed}
 use Rattle.cursor.specs.declared.Cursor.{Cursor}
 use Rattle.scanner.specs.declared.Scan.{Scan}
 use Rattle.scanner.specs.declared.Scan.the-variants.{Stuck, Past}
-use Rattle.scanner.specs.Stands.{Stands, Halts}
+use Rattle.grammar.specs.Place.{MalformedAt}
+use Rattle.scanner.specs.Stands.{Stands}
 use Rattle.scanner.specs.Scanned.{InsideScan, no-quote, unquoted}
 use Rattle.scanner.proofs.Standing.{stands-on, halts-at, halts-end}
 
@@ -77,7 +78,7 @@ module _ {s : List ℕ} where
         stops = p .stops;
       }
 
-  pub cut-short : {a i : ℕ} → Going s a i → length s ≤ i → (o : Open) (n e v : ℕ) → Stands s (quote o n e v) a → Halts s i
+  pub cut-short : {a i : ℕ} → Going s a i → length s ≤ i → (o : Open) (n e v : ℕ) → Stands s (quote o n e v) a → MalformedAt rfc8288 s i
   cut-short g h o n e v p = halts-end (inside-stands o n e v (g .derived) p) refl h refl
 
   pub is-closed : {a : ℕ} {c : Cursor} → Going s a (c .at .0) → c .at .0 < length s → getD s (c .at .0) 0 ≡ 34
@@ -85,7 +86,7 @@ module _ {s : List ℕ} where
   is-closed g h e = unquoted (g .derived) (record { inside = h; is = e })
 
   pub no-octet : {a i : ℕ} → Going s a i → i < length s → (getD s i 0 ≡ 34 → ⊥) → (getD s i 0 ≡ 92 → ⊥)
-      → (o : Open) (n e v : ℕ) → Stands s (quote o n e v) a → Halts s i
+      → (o : Open) (n e v : ℕ) → Stands s (quote o n e v) a → MalformedAt rfc8288 s i
   no-octet g h x y o n e v p =
       halts-at (inside-stands o n e v (g .derived) p) refl h (rw (ne-eqb _ 34 x, ne-eqb _ 92 y, g .stops h))
 
@@ -96,10 +97,10 @@ module _ {s : List ℕ} where
       (stands-on (escape o n e v) (inside-stands o n e v (g .derived) p) h (rw c))
 
   pub pair-short : {a i j : ℕ} → Going s a i → i < length s → getD s i 0 ≡ 92 → j ≡ i + 1 → length s ≤ j
-      → (o : Open) (n e v : ℕ) → Stands s (quote o n e v) a → Halts s j
+      → (o : Open) (n e v : ℕ) → Stands s (quote o n e v) a → MalformedAt rfc8288 s j
   pair-short g h c q l o n e v p = halts-end (escaping g h c q o n e v p) refl l refl
 
   pub pair-wrong : {a i j : ℕ} {b : Bool} → Going s a i → i < length s → getD s i 0 ≡ 92 → j ≡ i + 1 → j < length s
-      → b ≡ isEscapable (getD s j 0) → not b ≡ true → (o : Open) (n e v : ℕ) → Stands s (quote o n e v) a → Halts s j
+      → b ≡ isEscapable (getD s j 0) → not b ≡ true → (o : Open) (n e v : ℕ) → Stands s (quote o n e v) a → MalformedAt rfc8288 s j
   pair-wrong {b = b} g h c q l x y o n e v p =
       halts-at (escaping g h c q o n e v p) refl l (rw (sym x ∙ not-true b y))

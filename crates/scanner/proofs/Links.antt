@@ -13,9 +13,9 @@ use borrow.Author.Tests.{not-true, not-false}
 use Rattle.octets.specs.Sets.{isBlank, isTarget}
 use Rattle.grammar.specs.Link.{Link, Param}
 use Rattle.grammar.specs.Grammar.{rfc8288, At, In, Run, run-end, run-more, Target, Field}
-use Rattle.grammar.specs.Kept.{nameOf, among, isOnce, unless, keepAfter, keptLink, Reading}
+use Rattle.grammar.specs.Kept.{nameOf, among, isOnce, unless, keepAfter, keptLink, Reading, codeOf}
 use Rattle.grammar.specs.Records.{countParams}
-use Rattle.grammar.proofs.Machine.{
+use Rattle.grammar.specs.Machine.{
   State,
   gap,
   target,
@@ -32,14 +32,14 @@ use Rattle.grammar.proofs.Machine.{
 use Rattle.grammar.proofs.Raise.{map-reverseAux}
 use Rattle.kinds.specs.declared.Place.{Place}
 use Rattle.cursor.specs.Passed.{Passed, Looked}
-use Rattle.scanner.specs.Stands.{Stands, Halts, Ready}
+use Rattle.grammar.specs.Place.{MalformedAt}
+use Rattle.scanner.specs.Stands.{Stands, Ready}
 use Rattle.scanner.specs.Parsed.{ParsedValue, a-token, a-quoted, Parsed, without, with}
 use Rattle.grammar.proofs.Prefix.{isDead, is-dead}
 use Rattle.tables.proofs.Texts.{inside-le, target-le}
 use Rattle.octets.specs.Fold.{folded}
 use lib.Seq.{slice}
 use Rattle.names.specs.declared.Seen.{Seen}
-use Rattle.names.specs.Code.{codeOf}
 use Rattle.names.specs.Holds.{Holds, noneSeen, hasCode, withCode}
 use Rattle.names.proofs.Seeing.{nothing-seen, has-told, seen-with}
 use Rattle.kinds.specs.declared.ParamRecord.{ParamRecord}
@@ -193,7 +193,7 @@ module _ {s : List ℕ} where
   ready-comma {o} r q = stands-on (gap (close o)) (r .stands) (q .inside) (r .steps (q .inside) ∙ rw (q .is))
 
   ready-halts : {o : Open} {j : ℕ} → Ready s o j → j < length s → isBlank (getD s j 0) ≡ false → eqb (getD s j 0) 59 ≡ false
-      → eqb (getD s j 0) 44 ≡ false → Halts s j
+      → eqb (getD s j 0) 44 ≡ false → MalformedAt rfc8288 s j
   ready-halts {o} {j} r h b x y =
       halts-at (r .stands) (settled-alive (r .state) j (close o) (r .settles)) h (r .steps h ∙ rw (b, x, y))
 

@@ -14,7 +14,7 @@ use Rattle.octets.specs.Sets.{isBlank, isToken}
 use Rattle.grammar.specs.Link.{Param}
 use Rattle.grammar.specs.Grammar.{rfc8288, At, In, Run, run-end, run-more, Inside}
 use Rattle.grammar.proofs.Classes.{token-not-blank, blank-not-token, token-not-quote}
-use Rattle.grammar.proofs.Machine.{
+use Rattle.grammar.specs.Machine.{
   State,
   semi,
   name,
@@ -56,7 +56,8 @@ use Rattle.scanner.specs.Scanned.{
   no-param,
   param as a-param,
 }
-use Rattle.scanner.specs.Stands.{Stands, Halts, Ready, Clear}
+use Rattle.grammar.specs.Place.{MalformedAt}
+use Rattle.scanner.specs.Stands.{Stands, Ready, Clear}
 use Rattle.scanner.specs.Parsed.{ParsedValue, a-token, a-quoted, Parsed, without, with}
 use Rattle.scanner.proofs.Standing.{stands-on, stands-run, halts-at, halts-end}
 use Rattle.scanner.proofs.Insides.{inside-stands}
@@ -74,10 +75,10 @@ module _ {s : List ℕ} where
   pub first-of : {f : ℕ → Bool} {a e : ℕ} → Passed f s a e → (e ≡ a → ⊥) → a < e
   first-of p n = omega (arith, p .forward, n)
 
-  end-or-not : {st : State} {i : ℕ} → Stands s st i → (length s ≤ i → Halts s i) → (i < length s → Halts s i) → Halts s i
+  end-or-not : {st : State} {i : ℕ} → Stands s st i → (length s ≤ i → MalformedAt rfc8288 s i) → (i < length s → MalformedAt rfc8288 s i) → MalformedAt rfc8288 s i
   end-or-not {i = i} p x y = go (decLe (length s) i)
     where
-      go : Dec (length s ≤ i) → Halts s i
+      go : Dec (length s ≤ i) → MalformedAt rfc8288 s i
       go (yes h) = x h
       go (no h) = y (omega arith)
 
@@ -91,7 +92,7 @@ module _ {s : List ℕ} where
   -- ---- values
 
   pub no-value-here : {v e : ℕ} → Clear s v → (v < length s → eqb (getD s v 0) 34 ≡ false) → Passed isToken s v e → e ≡ v
-      → (o : Open) (n k : ℕ) → Stands s (equals o n k) v → Halts s v
+      → (o : Open) (n k : ℕ) → Stands s (equals o n k) v → MalformedAt rfc8288 s v
   no-value-here {v} c q t e o n k p =
       end-or-not p (λ h. halts-end p refl h refl)
       (λ h. halts-at p refl h (rw (c .clear h, q h, not-there t e h)))
@@ -128,7 +129,7 @@ module _ {s : List ℕ} where
 
   -- ---- names
 
-  pub no-param-here : {a e : ℕ} → Clear s a → Passed isToken s a e → e ≡ a → (o : Open) → Stands s (semi o) a → Halts s a
+  pub no-param-here : {a e : ℕ} → Clear s a → Passed isToken s a e → e ≡ a → (o : Open) → Stands s (semi o) a → MalformedAt rfc8288 s a
   no-param-here c t e o p =
       end-or-not p (λ h. halts-end p refl h refl) (λ h. halts-at p refl h (rw (c .clear h, not-there t e h)))
 

@@ -11,12 +11,13 @@ use lib.Seq.{take-suc, take-length, length-take-le}
 use Rattle.grammar.specs.Link.{Link}
 use Rattle.grammar.specs.Grammar.{rfc8288, In, Run, run-end, run-more, Field}
 use Rattle.grammar.specs.Place.{Malformed, Begins, Place}
-use Rattle.grammar.proofs.Machine.{State, gap, dead, step, run, settle, inOrder, finish}
-use Rattle.grammar.proofs.Editions.{apart8288}
+use Rattle.grammar.specs.Machine.{State, gap, dead, step, run, settle, inOrder, finish}
+use Rattle.grammar.proofs.Editions.{admissible8288}
 use Rattle.grammar.proofs.Exact.{read-derived}
 use Rattle.grammar.proofs.Readings.{unread-malformed}
 use Rattle.grammar.proofs.Prefix.{run-append, isDead, begins-alive, place-at}
-use Rattle.scanner.specs.Stands.{Stands, Halts}
+use Rattle.grammar.specs.Place.{MalformedAt}
+use Rattle.scanner.specs.Stands.{Stands}
 
 pub stands-start : (s : List ℕ) → Stands s (gap []) 0
 stands-start s = record { inside = omega arith; is = refl }
@@ -49,7 +50,7 @@ module _ {s : List ℕ} where
 
   -- the next octet leads nowhere
   pub halts-at : {st : State} {i : ℕ} → Stands s st i → isDead st ≡ false → i < length s
-      → step rfc8288 st i (getD s i 0) ≡ dead → Halts s i
+      → step rfc8288 st i (getD s i 0) ≡ dead → MalformedAt rfc8288 s i
   halts-at {st} {i} p alive h e =
       let died : isDead (run rfc8288 (gap []) 0 (take (suc i) s)) ≡ true = ap isDead (stands-on dead p h e .is) in
       record {
@@ -57,28 +58,28 @@ module _ {s : List ℕ} where
             λ R f.
             true≢false
             (sym died
-            ∙ begins-alive rfc8288 apart8288 (take (suc i) s)
+            ∙ begins-alive rfc8288 admissible8288 (take (suc i) s)
             (record {
               rest = drop (suc i) s;
               links = R;
               derived = subst (λ (x : List ℕ). Field rfc8288 x R) (sym (take-append-drop (suc i) s)) f;
             }));
         place =
-            place-at rfc8288 apart8288 s i (p .inside) (ap isDead (p .is) ∙ alive) (inr died);
+            place-at rfc8288 admissible8288 s i (p .inside) (ap isDead (p .is) ∙ alive) (inr died);
       }
 
   -- the header ends where it may not
-  pub halts-end : {st : State} {i : ℕ} → Stands s st i → isDead st ≡ false → length s ≤ i → settle st i ≡ none → Halts s i
+  pub halts-end : {st : State} {i : ℕ} → Stands s st i → isDead st ≡ false → length s ≤ i → settle st i ≡ none → MalformedAt rfc8288 s i
   halts-end {st} {i} p alive h e =
       let w : i ≡ length s = omega (arith, p .inside) in
       let all : take i s ≡ s = ap (λ (k : ℕ). take k s) w ∙ take-length s in
       record {
         malformed =
-            unread-malformed rfc8288 apart8288 s
+            unread-malformed rfc8288 admissible8288 s
             (ap inOrder
             (ap (λ (x : List ℕ). settle (run rfc8288 (gap []) 0 x) (length s)) (sym all)
             ∙ ap (λ (x : State). settle x (length s)) (p .is) ∙ ap (settle st) (sym w) ∙ e));
-        place = place-at rfc8288 apart8288 s i (p .inside) (ap isDead (p .is) ∙ alive) (inl w);
+        place = place-at rfc8288 admissible8288 s i (p .inside) (ap isDead (p .is) ∙ alive) (inl w);
       }
 
   -- the header ends where it may
@@ -87,7 +88,7 @@ module _ {s : List ℕ} where
   finishes {st} {i} {ls} p h e =
       let w : i ≡ length s = omega (arith, p .inside) in
       let all : take i s ≡ s = ap (λ (k : ℕ). take k s) w ∙ take-length s in
-      read-derived rfc8288 apart8288 s
+      read-derived rfc8288 admissible8288 s
       (ap inOrder
       (ap (λ (x : List ℕ). settle (run rfc8288 (gap []) 0 x) (length s)) (sym all)
       ∙ ap (λ (x : State). settle x (length s)) (p .is) ∙ ap (settle st) (sym w) ∙ e))

@@ -11,13 +11,14 @@ use borrow.Author.Tests.{not-false, ne-eqb}
 use Rattle.octets.specs.Sets.{isTarget, isHex}
 use Rattle.grammar.specs.Link.{Link}
 use Rattle.grammar.specs.Grammar.{rfc8288, At, In, Run, run-end, run-more, Target, target-end, octet, triple}
-use Rattle.grammar.proofs.Machine.{State, target, percent, hex, step}
+use Rattle.grammar.specs.Machine.{State, target, percent, hex, step}
 use Rattle.cursor.specs.Passed.{Passed}
 use Rattle.kinds.specs.declared.Place.{Place}
 use Rattle.cursor.specs.declared.Cursor.{Cursor}
 use Rattle.scanner.specs.declared.Scan.{Scan}
 use Rattle.scanner.specs.declared.Scan.the-variants.{Stuck, Past}
-use Rattle.scanner.specs.Stands.{Stands, Halts}
+use Rattle.grammar.specs.Place.{MalformedAt}
+use Rattle.scanner.specs.Stands.{Stands}
 use Rattle.scanner.specs.Scanned.{TripleScan, no-digit, digits, TargetScan, closed}
 use Rattle.scanner.proofs.Standing.{stands-on, stands-run, halts-at, halts-end}
 
@@ -38,24 +39,24 @@ module _ {s : List ℕ} where
   after-first : {a : ℕ} (ls : List Link) (b : ℕ) → In s isHex a → Stands s (percent ls b) a → Stands s (hex ls b) (suc a)
   after-first ls b x p = stands-on (hex ls b) p (x .inside) (rw (x .is))
 
-  pub first-missing : (a : ℕ) → length s ≤ a → (ls : List Link) (b : ℕ) → Stands s (percent ls b) a → Halts s a
+  pub first-missing : (a : ℕ) → length s ≤ a → (ls : List Link) (b : ℕ) → Stands s (percent ls b) a → MalformedAt rfc8288 s a
   first-missing a h ls b p = halts-end p refl h refl
 
   pub first-wrong : (a : ℕ) → a < length s → isHex (getD s a 0) ≡ false → (ls : List Link) (b : ℕ)
-      → Stands s (percent ls b) a → Halts s a
+      → Stands s (percent ls b) a → MalformedAt rfc8288 s a
   first-wrong a h e ls b p = halts-at p refl h (rw e)
 
   pub second-missing : (a j : ℕ) → In s isHex a → j ≡ a + 1 → length s ≤ j → (ls : List Link) (b : ℕ)
-      → Stands s (percent ls b) a → Halts s j
+      → Stands s (percent ls b) a → MalformedAt rfc8288 s j
   second-missing a j x e h ls b p =
       let k : suc a ≡ j = sym (e ∙ add-one a) in
-      subst (Halts s) k (halts-end (after-first ls b x p) refl (omega arith) refl)
+      subst (MalformedAt rfc8288 s) k (halts-end (after-first ls b x p) refl (omega arith) refl)
 
   pub second-wrong : (a j : ℕ) → In s isHex a → j ≡ a + 1 → j < length s → isHex (getD s j 0) ≡ false → (ls : List Link) (b : ℕ)
-      → Stands s (percent ls b) a → Halts s j
+      → Stands s (percent ls b) a → MalformedAt rfc8288 s j
   second-wrong a j x e h f ls b p =
       let k : j ≡ suc a = e ∙ add-one a in
-      subst (Halts s) (sym k)
+      subst (MalformedAt rfc8288 s) (sym k)
       (halts-at (after-first ls b x p) refl (omega arith) (rw (subst (λ (n : ℕ). isHex (getD s n 0) ≡ false) k f)))
 
   pub both-there : {a j : ℕ} {c : Cursor} → In s isHex a → j ≡ a + 1 → In s isHex j → c .at .0 ≡ j + 1
@@ -126,7 +127,7 @@ module _ {s : List ℕ} where
   pub past-inside : {j : ℕ} {d : Cursor} {r : Scan} → TripleScan s j r → r ≡ Past d → (suc j ≤ d .at .0) × (d .at .0 ≤ length s)
   past-inside u w = let t = past-digits u w in (omega (arith, t .0), omega (arith, t .0, t .2 .inside))
 
-  pub cut-short : {a i : ℕ} → Going s a i → length s ≤ i → (ls : List Link) (b : ℕ) → Stands s (target ls b) a → Halts s i
+  pub cut-short : {a i : ℕ} → Going s a i → length s ≤ i → (ls : List Link) (b : ℕ) → Stands s (target ls b) a → MalformedAt rfc8288 s i
   cut-short g h ls b p = halts-end (target-stands ls b (g .derived) p) refl h refl
 
   pub is-closed : {a : ℕ} {c : Cursor} → Going s a (c .at .0) → c .at .0 < length s → getD s (c .at .0) 0 ≡ 62
@@ -134,17 +135,17 @@ module _ {s : List ℕ} where
   is-closed g h e = closed (g .derived) (record { inside = h; is = e })
 
   pub no-octet : {a i : ℕ} → Going s a i → i < length s → (getD s i 0 ≡ 62 → ⊥) → (getD s i 0 ≡ 37 → ⊥)
-      → (ls : List Link) (b : ℕ) → Stands s (target ls b) a → Halts s i
+      → (ls : List Link) (b : ℕ) → Stands s (target ls b) a → MalformedAt rfc8288 s i
   no-octet g h e f ls b p = halts-at (target-stands ls b (g .derived) p) refl h (rw (g .stops h, ne-eqb _ 37 f, ne-eqb _ 62 e))
 
   pub no-triple : {a i j : ℕ} {q : Place} {r : Scan} → Going s a i → i < length s → getD s i 0 ≡ 37 → j ≡ i + 1
       → TripleScan s j r → r ≡ Stuck q → (ls : List Link) (b : ℕ)
-      → Stands s (target ls b) a → Halts s (q .0)
+      → Stands s (target ls b) a → MalformedAt rfc8288 s (q .0)
   unfolding isTarget
   no-triple {i = i} {j = j} g h c k t e ls b p =
       go (subst (TripleScan s j) e t)
       (subst (Stands s (percent ls b)) (sym (k ∙ add-one i))
       (stands-on (percent ls b) (target-stands ls b (g .derived) p) h (rw c)))
     where
-      go : {q : Place} → TripleScan s j (Stuck q) → Stands s (percent ls b) j → Halts s (q .0)
+      go : {q : Place} → TripleScan s j (Stuck q) → Stands s (percent ls b) j → MalformedAt rfc8288 s (q .0)
       go (no-digit f) p = f ls b p

@@ -3,7 +3,7 @@ use Prim.Native.Nat.{ℕ}
 use mathlib.Core.List.{List}
 use Rattle.grammar.specs.Link.{Link}
 use Rattle.grammar.specs.Grammar.{rfc8288, Field}
-use Rattle.grammar.proofs.Machine.{State, target, semi, equals, quote, Open}
+use Rattle.grammar.specs.Machine.{State, target, semi, equals, quote, Open}
 use Rattle.scanner.specs.Stands.{Stands, Clear}
 
 pub record Known (s : List ℕ) (st : State) (i : ℕ) : Type 0 where

@@ -9,7 +9,7 @@ use Rattle.grammar.specs.Link.{Link, Param}
 use Rattle.grammar.specs.Grammar.{rfc8288, At, Target}
 use Rattle.grammar.specs.Kept.{keepAfter, Reading}
 use Rattle.grammar.specs.Records.{countParams}
-use Rattle.grammar.proofs.Machine.{target, opened}
+use Rattle.grammar.specs.Machine.{target, opened}
 use Rattle.kinds.specs.declared.Place.{Place}
 use Rattle.cursor.specs.Passed.{Passed}
 use Rattle.cursor.specs.declared.Cursor.{Cursor}
@@ -17,7 +17,8 @@ use Rattle.scanner.specs.declared.LinkScan.{LinkScan}
 use Rattle.scanner.specs.declared.LinkScan.the-variants.{NoLink, Whole}
 use Rattle.scanner.specs.declared.HeaderScan.{HeaderScan}
 use Rattle.scanner.specs.declared.HeaderScan.the-variants.{Malformed, Counted}
-use Rattle.scanner.specs.Stands.{Stands, Halts, Ready}
+use Rattle.grammar.specs.Place.{MalformedAt}
+use Rattle.scanner.specs.Stands.{Stands, Ready}
 use Rattle.scanner.specs.Parsed.{Parsed}
 
 -- parameters one behind the other from place a up to place i, the last first
@@ -36,7 +37,7 @@ pub record Params (s : List ℕ) (a j n : ℕ) : Type 0 where
   pub kept : n ≡ length (keepAfter s [] (reverse params))
 
 pub data ParamsScanned (s : List ℕ) (a : ℕ) : LinkScan → Type 0 where
-  no-params-here : {p : Place} → ((ls : List Link) (b k : ℕ) → Ready s (opened ls b k) a → Halts s (p .0))
+  no-params-here : {p : Place} → ((ls : List Link) (b k : ℕ) → Ready s (opened ls b k) a → MalformedAt rfc8288 s (p .0))
       → ParamsScanned s a (NoLink p)
   all-params : {c : Cursor} {n : ℕ} → Params s a (c .at .0) n → ParamsScanned s a (Whole c n)
 
@@ -48,9 +49,9 @@ pub record WholeLink (s : List ℕ) (a j n : ℕ) : Type 0 where
   pub rest : Params s (suc close) j n
 
 pub data LinkScanned (s : List ℕ) (a : ℕ) : LinkScan → Type 0 where
-  no-link : {p : Place} → ((ls : List Link) → Stands s (target ls a) a → Halts s (p .0)) → LinkScanned s a (NoLink p)
+  no-link : {p : Place} → ((ls : List Link) → Stands s (target ls a) a → MalformedAt rfc8288 s (p .0)) → LinkScanned s a (NoLink p)
   a-link : {c : Cursor} {n : ℕ} → WholeLink s a (c .at .0) n → LinkScanned s a (Whole c n)
 
 pub data HeaderScanned (s : List ℕ) : HeaderScan → Type 0 where
-  malformed-at : {p : Place} → Halts s (p .0) → HeaderScanned s (Malformed p)
+  malformed-at : {p : Place} → MalformedAt rfc8288 s (p .0) → HeaderScanned s (Malformed p)
   counted : {n m : ℕ} {K : List Link} → Reading rfc8288 s K → n ≡ length K → m ≡ countParams K → HeaderScanned s (Counted n m)

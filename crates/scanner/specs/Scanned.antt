@@ -4,7 +4,7 @@ use mathlib.Core.Path.{_≡_}
 use mathlib.Core.List.{List}
 use Rattle.grammar.specs.Link.{Link}
 use Rattle.grammar.specs.Grammar.{At, In, Inside, Target}
-use Rattle.grammar.proofs.Machine.{target, percent, semi, equals, quote, Open}
+use Rattle.grammar.specs.Machine.{target, percent, semi, equals, quote, Open}
 use Rattle.octets.specs.Sets.{isHex}
 use Rattle.kinds.specs.Slots.{toParam}
 use Rattle.kinds.specs.declared.Place.{Place}
@@ -17,31 +17,33 @@ use Rattle.scanner.specs.declared.ValueScan.{ValueScan}
 use Rattle.scanner.specs.declared.ValueScan.the-variants.{NoValue, Value}
 use Rattle.scanner.specs.declared.ParamScan.{ParamScan}
 use Rattle.scanner.specs.declared.ParamScan.the-variants.{NoParam, Param}
-use Rattle.scanner.specs.Stands.{Stands, Halts}
+use Rattle.grammar.specs.Grammar.{rfc8288}
+use Rattle.grammar.specs.Place.{MalformedAt}
+use Rattle.scanner.specs.Stands.{Stands}
 use Rattle.scanner.specs.Parsed.{ParsedValue, Parsed}
 
 -- two hex digits at place a, behind `%`
 pub data TripleScan (s : List ℕ) (a : ℕ) : Scan → Type 0 where
-  no-digit : {p : Place} → ((ls : List Link) (b : ℕ) → Stands s (percent ls b) a → Halts s (p .0)) → TripleScan s a (Stuck p)
+  no-digit : {p : Place} → ((ls : List Link) (b : ℕ) → Stands s (percent ls b) a → MalformedAt rfc8288 s (p .0)) → TripleScan s a (Stuck p)
   digits : {c : Cursor} → c .at .0 ≡ suc (suc a) → In s isHex a → In s isHex (suc a) → TripleScan s a (Past c)
 
 -- a target from place a, and the `>` behind it
 pub data TargetScan (s : List ℕ) (a : ℕ) : Scan → Type 0 where
-  no-target : {p : Place} → ((ls : List Link) (b : ℕ) → Stands s (target ls b) a → Halts s (p .0)) → TargetScan s a (Stuck p)
+  no-target : {p : Place} → ((ls : List Link) (b : ℕ) → Stands s (target ls b) a → MalformedAt rfc8288 s (p .0)) → TargetScan s a (Stuck p)
   closed : {c : Cursor} → Target s a (c .at .0) → At s (c .at .0) 62 → TargetScan s a (Past c)
 
 -- the inside of a quoted string from place a, and the quote behind it
 pub data InsideScan (s : List ℕ) (a : ℕ) : Scan → Type 0 where
-  no-quote : {p : Place} → ((o : Open) (n e v : ℕ) → Stands s (quote o n e v) a → Halts s (p .0)) → InsideScan s a (Stuck p)
+  no-quote : {p : Place} → ((o : Open) (n e v : ℕ) → Stands s (quote o n e v) a → MalformedAt rfc8288 s (p .0)) → InsideScan s a (Stuck p)
   unquoted : {c : Cursor} → Inside s a (c .at .0) → At s (c .at .0) 34 → InsideScan s a (Past c)
 
 -- a value from place v on
 pub data ValueScanned (s : List ℕ) (v : ℕ) : ValueScan → Type 0 where
-  no-value : {p : Place} → ((o : Open) (n e : ℕ) → Stands s (equals o n e) v → Halts s (p .0)) → ValueScanned s v (NoValue p)
+  no-value : {p : Place} → ((o : Open) (n e : ℕ) → Stands s (equals o n e) v → MalformedAt rfc8288 s (p .0)) → ValueScanned s v (NoValue p)
   value : {a : Span} {f : ℕ} {c : Cursor} → ParsedValue s v (a .from .0) (a .to .0) f (c .at .0)
       → ValueScanned s v (Value a f c)
 
 -- a parameter from place a on
 pub data ParamScanned (s : List ℕ) (a : ℕ) : ParamScan → Type 0 where
-  no-param : {p : Place} → ((o : Open) → Stands s (semi o) a → Halts s (p .0)) → ParamScanned s a (NoParam p)
+  no-param : {p : Place} → ((o : Open) → Stands s (semi o) a → MalformedAt rfc8288 s (p .0)) → ParamScanned s a (NoParam p)
   param : {r : ParamRecord} {c : Cursor} → Parsed s a (toParam r) (c .at .0) → ParamScanned s a (Param r c)

@@ -7,18 +7,12 @@ use mathlib.Core.Option.{some}
 use lib.ListN.{length, take, getD}
 use Rattle.octets.specs.Sets.{isBlank}
 use Rattle.grammar.specs.Grammar.{rfc8288}
-use Rattle.grammar.specs.Place.{Malformed, Place}
-use Rattle.grammar.proofs.Machine.{State, gap, run, step, settle, Open, next, close}
+use Rattle.grammar.specs.Machine.{State, gap, run, step, settle, Open, next, close}
 
 -- after the first i octets of s it is in this state
 pub record Stands (s : List ℕ) (st : State) (i : ℕ) : Type 0 where
   pub inside : i ≤ length s
   pub is : run rfc8288 (gap []) 0 (take i s) ≡ st
-
--- the header is malformed, and p is its place
-pub record Halts (s : List ℕ) (p : ℕ) : Type 0 where
-  pub malformed : Malformed rfc8288 s
-  pub place : Place rfc8288 s p
 
 -- at place i the open link is whole, and goes on as after a parameter
 pub record Ready (s : List ℕ) (o : Open) (i : ℕ) : Type 0 where

@@ -8,10 +8,9 @@ use mathlib.Core.List.{List, [], _∷_}
 use borrow.Author.Tests.{not-true}
 use Rattle.octets.proofs.Octets.{both}
 use Rattle.grammar.specs.Link.{Param}
-use Rattle.grammar.specs.Kept.{nameOf, among, isOnce}
+use Rattle.grammar.specs.Kept.{nameOf, among, isOnce, codeOf}
 use Rattle.tables.specs.Table.{paramAt, paramsFrom}
 use Rattle.tables.specs.Good.{Each, each-none, each-more, onceEach, GoodParam}
-use Rattle.names.specs.Code.{codeOf}
 use Rattle.names.specs.Holds.{Holds, noneSeen, hasCode, withCode}
 use Rattle.names.specs.declared.Seen.{Seen}
 use Rattle.names.proofs.Seeing.{nothing-seen, has-told, seen-with}

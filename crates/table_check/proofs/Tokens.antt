@@ -11,7 +11,7 @@ use lib.ListN.{length, take, getD}
 use lib.Seq.{length-take-le, getD-take}
 use Rattle.octets.specs.Sets.{isToken}
 use Rattle.grammar.specs.Grammar.{Run, run-end, run-more, Token}
-use Rattle.tables.specs.Good.{Span}
+use Rattle.tables.specs.Good.{InText}
 use Rattle.tables.proofs.Texts.{run-le}
 use Rattle.cursor.specs.Passed.{Passed}
 use Rattle.table_check.specs.Decides.{Decides}
@@ -36,7 +36,7 @@ split : {s : List ℕ} {a e : ℕ} → a < e → Run s isToken a e → Token s a
 split l run-end = absurd (omega arith)
 split l (run-more b r) = record { first = b; rest = r }
 
-module _ (s : List ℕ) {a e j : ℕ} (h : Span s a e) (p : Passed isToken (take e s) a j) where
+module _ (s : List ℕ) {a e j : ℕ} (h : InText s a e) (p : Passed isToken (take e s) a j) where
   reached : Token s a e → j ≡ e
   reached t = ⊎-elim (λ q. q) short (eq-or-lt-of-le (subst (λ (k : ℕ). j ≤ k) (length-take-le e s (h .inside)) (p .inside)))
     where

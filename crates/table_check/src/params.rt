@@ -3,7 +3,7 @@ ghost use Prim.Native.Nat.{_+_, _*_, _≤_};
 ghost use mathlib.Core.List.{[]};
 ghost use lib.ListN.{length};
 ghost use Rattle.tables.specs.Table.{paramsFrom};
-ghost use Rattle.tables.specs.Good.{Span, GoodValue, GoodParam};
+ghost use Rattle.tables.specs.Good.{InText, GoodValue, GoodParam};
 ghost use Rattle.kinds.specs.Slots.{toParam};
 ghost use Rattle.table_check.specs.Decides.{Decides};
 ghost use Rattle.table_check.specs.Parts.{GoodParams};
@@ -17,7 +17,7 @@ use names::Seen;
 
 // Whether the form is 0, 1 or 2, and the value is as its form says.
 pub fn is_good_value(s: &[u8], p: ParamRecord) -> bool
-    requires { ⌜ Span (now s) (p .value .from .0) (p .value .to .0) ⌝ }
+    requires { ⌜ InText (now s) (p .value .from .0) (p .value .to .0) ⌝ }
     ensures { λ r. ⌜ Decides r (GoodValue (now (s .entry)) (toParam p)) ⌝ }
 {
     let form = p.form;

@@ -1,6 +1,6 @@
 // Whether a part of the text obeys the grammar, from its first octet to its last and no further.
 ghost use Rattle.grammar.specs.Grammar.{Token, Inside, Target};
-ghost use Rattle.tables.specs.Good.{Span as InText};
+ghost use Rattle.tables.specs.Good.{InText};
 ghost use Rattle.table_check.specs.Decides.{Decides};
 use cursor::Cursor;
 use kinds::Span;

@@ -12,7 +12,7 @@ use Rattle.grammar.specs.Link.{Link, Param}
 use Rattle.grammar.specs.Grammar.{At, In, Run, run-end, run-more, Token, Inside, inside-end, plain, pair}
 use Rattle.grammar.specs.Grammar.{Target, target-end, octet, triple}
 use Rattle.tables.specs.Table.{firstOf, countOf, linksOf}
-use Rattle.tables.specs.Good.{Each, each-none, each-more, Follows, onceEach, Span, GoodValue, no-value, token-value}
+use Rattle.tables.specs.Good.{Each, each-none, each-more, Follows, onceEach, InText, GoodValue, no-value, token-value}
 use Rattle.tables.specs.Good.{quoted-value, GoodParam, GoodLink}
 use Rattle.tables.specs.Laws.{GoodDecided}
 
@@ -32,7 +32,7 @@ module _ (s : List ℕ) where
       map-dec (λ p. record { inside = p .0; is = p .1 }) (λ r. (r .inside, r .is))
       (Dec·and (decLt i (length s)) (ℕ-discrete (getD s i 0) c))
 
-  span? : (a e : ℕ) → Dec (Span s a e)
+  span? : (a e : ℕ) → Dec (InText s a e)
   span? a e =
       map-dec (λ p. record { ordered = p .0; inside = p .1 }) (λ r. (r .ordered, r .inside))
       (Dec·and (decLe a e) (decLe e (length s)))

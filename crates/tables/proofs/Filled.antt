@@ -7,19 +7,19 @@ use mathlib.Core.List.{List, [], _∷_, _++_, append-assoc}
 use lib.ListN.{length, getD, length-append}
 use lib.Seq.{getD-append-add}
 use Rattle.grammar.specs.Link.{Link, Param}
-use Rattle.grammar.specs.Records.{countParams, linkRecords, recordsOf, paramRecords}
+use Rattle.grammar.specs.Records.{linkWidth, paramWidth, countParams, linkRecords, recordsOf, paramRecords}
 use Rattle.tables.specs.Table.{paramAt, paramsFrom, firstOf, countOf, linkAt, linksFrom}
 use Rattle.tables.specs.Good.{Follows}
 
-pub link-records-length : (n : ℕ) (ls : List Link) → length (linkRecords n ls) ≡ 4 * length ls
+pub link-records-length : (n : ℕ) (ls : List Link) → length (linkRecords n ls) ≡ linkWidth * length ls
 link-records-length n [] = refl
 link-records-length n (l ∷ ls) = omega (arith, link-records-length (n + length (l .params)) ls)
 
-pub records-length : (ps : List Param) → length (recordsOf ps) ≡ 5 * length ps
+pub records-length : (ps : List Param) → length (recordsOf ps) ≡ paramWidth * length ps
 records-length [] = refl
 records-length (p ∷ ps) = omega (arith, records-length ps)
 
-pub param-records-length : (ls : List Link) → length (paramRecords ls) ≡ 5 * countParams ls
+pub param-records-length : (ls : List Link) → length (paramRecords ls) ≡ paramWidth * countParams ls
 param-records-length [] = refl
 param-records-length (l ∷ ls) =
     omega (arith, length-append (recordsOf (l .params)) (paramRecords ls), records-length (l .params), param-records-length ls)
@@ -32,18 +32,18 @@ slot w u v n k m e h q =
 
 -- the record of one parameter, behind those of j
 param-filled : (w u v : List ℕ) (j : ℕ) (p : Param)
-    → w ≡ u ++ p .nameFrom ∷ p .nameTo ∷ p .valueFrom ∷ p .valueTo ∷ p .form ∷ v → length u ≡ 5 * j → paramAt w j ≡ p
+    → w ≡ u ++ p .nameFrom ∷ p .nameTo ∷ p .valueFrom ∷ p .valueTo ∷ p .form ∷ v → length u ≡ paramWidth * j → paramAt w j ≡ p
 param-filled w u v j p e h =
     let r = p .nameFrom ∷ p .nameTo ∷ p .valueFrom ∷ p .valueTo ∷ p .form ∷ v in
     rw (
-      slot w u r (5 * j) 0 (5 * j) e h (omega arith),
-      slot w u r (5 * j) 1 (5 * j + 1) e h refl,
-      slot w u r (5 * j) 2 (5 * j + 2) e h refl,
-      slot w u r (5 * j) 3 (5 * j + 3) e h refl,
-      slot w u r (5 * j) 4 (5 * j + 4) e h refl,
+      slot w u r (paramWidth * j) 0 (paramWidth * j) e h (omega arith),
+      slot w u r (paramWidth * j) 1 (paramWidth * j + 1) e h refl,
+      slot w u r (paramWidth * j) 2 (paramWidth * j + 2) e h refl,
+      slot w u r (paramWidth * j) 3 (paramWidth * j + 3) e h refl,
+      slot w u r (paramWidth * j) 4 (paramWidth * j + 4) e h refl,
     )
 
-pub params-filled : (w u v : List ℕ) (j : ℕ) (ps : List Param) → w ≡ u ++ (recordsOf ps ++ v) → length u ≡ 5 * j
+pub params-filled : (w u v : List ℕ) (j : ℕ) (ps : List Param) → w ≡ u ++ (recordsOf ps ++ v) → length u ≡ paramWidth * j
     → paramsFrom w j (length ps) ≡ ps
 params-filled w u v j [] e h = refl
 params-filled w u v j (p ∷ ps) e h =
@@ -56,15 +56,15 @@ params-filled w u v j (p ∷ ps) e h =
 module _ (w x : List ℕ) where
   record Stand (u v y z : List ℕ) (i n : ℕ) (ls : List Link) : Type 0 where
     links : w ≡ u ++ (linkRecords n ls ++ v)
-    before : length u ≡ 4 * i
+    before : length u ≡ linkWidth * i
     params : x ≡ y ++ (paramRecords ls ++ z)
-    param-before : length y ≡ 5 * n
+    param-before : length y ≡ paramWidth * n
 
   first-count : {u v y z : List ℕ} {i n : ℕ} {l : Link} {ls : List Link} → Stand u v y z i n (l ∷ ls)
       → (firstOf w i ≡ n) × (countOf w i ≡ length (l .params))
   first-count {u} {v} {i = i} {n = n} {l = l} {ls = ls} s =
       let r = linkRecords n (l ∷ ls) ++ v in
-      (slot w u r (4 * i) 2 (4 * i + 2) (s .links) (s .before) refl, slot w u r (4 * i) 3 (4 * i + 3) (s .links) (s .before) refl)
+      (slot w u r (linkWidth * i) 2 (linkWidth * i + 2) (s .links) (s .before) refl, slot w u r (linkWidth * i) 3 (linkWidth * i + 3) (s .links) (s .before) refl)
 
   -- one link further
   on : {u v y z : List ℕ} {i n : ℕ} {l : Link} {ls : List Link} → Stand u v y z i n (l ∷ ls)
@@ -86,8 +86,8 @@ module _ (w x : List ℕ) where
       let r = linkRecords n (l ∷ ls) ++ v in
       let f = first-count s in
       rw (
-        slot w u r (4 * i) 0 (4 * i) (s .links) (s .before) (omega arith),
-        slot w u r (4 * i) 1 (4 * i + 1) (s .links) (s .before) refl,
+        slot w u r (linkWidth * i) 0 (linkWidth * i) (s .links) (s .before) (omega arith),
+        slot w u r (linkWidth * i) 1 (linkWidth * i + 1) (s .links) (s .before) refl,
         f .0,
         f .1,
         params-filled x y (paramRecords ls ++ z) n (l .params)

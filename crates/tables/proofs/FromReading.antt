@@ -36,7 +36,7 @@ use Rattle.tables.specs.Good.{
   each-none,
   each-more,
   onceEach,
-  Span,
+  InText,
   GoodValue,
   no-value,
   token-value,
@@ -52,7 +52,7 @@ use Rattle.tables.proofs.Filled.{filled-links, filled-follows, link-rec
 module _ (s : List ℕ) where
   -- ---- each parameter that a derivation gives is good
 
-  token-span : {i j : ℕ} → Token s i j → Span s i j
+  token-span : {i j : ℕ} → Token s i j → InText s i j
   token-span t = record { ordered = omega (arith, run-le s (t .rest)); inside = run-inside s (t .first .inside) (t .rest) }
 
   value-good : {n e i j a b f : ℕ} → Token s n e → Value rfc8288 s i j a b f

@@ -17,14 +17,14 @@ use Rattle.grammar.specs.Grammar.{rfc8288, Token, Run, run-end, run-more}
 use Rattle.grammar.specs.Kept.{nameOf, among, isOnce, unless, keepAfter, keptLink, Reading}
 use Rattle.grammar.specs.Records.{countParams}
 use Rattle.grammar.proofs.Readings.{one-reading}
-use Rattle.grammar.proofs.Editions.{apart8288}
+use Rattle.grammar.proofs.Editions.{admissible8288}
 use Rattle.tables.specs.Table.{Table, paramsFrom, firstOf, countOf, linksFrom, linksOf}
 use Rattle.tables.specs.Good.{
   Each,
   each-none,
   each-more,
   onceEach,
-  Span,
+  InText,
   GoodValue,
   no-value,
   token-value,
@@ -198,4 +198,4 @@ written-tells t u g h e =
     let same : meanings w (b .links) ≡ tableMeanings u =
     subst (λ (x : List ℕ). meanings x (b .links) ≡ tableMeanings u) (sym e) (b .same-meanings)
     in
-    sym (a .same-meanings) ∙ ap (meanings w) (one-reading rfc8288 apart8288 w (a .links) (b .links) (a .reads) reads) ∙ same
+    sym (a .same-meanings) ∙ ap (meanings w) (one-reading rfc8288 admissible8288 w (a .links) (b .links) (a .reads) reads) ∙ same

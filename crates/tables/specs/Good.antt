@@ -31,7 +31,7 @@ onceEach s earlier (p ∷ ps) =
 
 module _ (s : List ℕ) where
   -- a span of the text: start at most end, and end at most the text's length
-  pub record Span (a e : ℕ) : Type 0 where
+  pub record InText (a e : ℕ) : Type 0 where
     pub ordered : a ≤ e
     pub inside : e ≤ length s
 
@@ -43,14 +43,14 @@ module _ (s : List ℕ) where
 
   -- both spans lie in the text, and the name and the value obey the grammar
   pub record GoodParam (p : Param) : Type 0 where
-    pub name-span : Span (p .nameFrom) (p .nameTo)
-    pub value-span : Span (p .valueFrom) (p .valueTo)
+    pub name-span : InText (p .nameFrom) (p .nameTo)
+    pub value-span : InText (p .valueFrom) (p .valueTo)
     pub name : Token s (p .nameFrom) (p .nameTo)
     pub value : GoodValue p
 
   -- the target's span lies in the text and obeys the grammar, so do the parameters, and no two share one of the six names
   pub record GoodLink (l : Link) : Type 0 where
-    pub target-span : Span (l .targetFrom) (l .targetTo)
+    pub target-span : InText (l .targetFrom) (l .targetTo)
     pub target : Target s (l .targetFrom) (l .targetTo)
     pub params : Each GoodParam (l .params)
     pub once : onceEach s [] (l .params) ≡ true

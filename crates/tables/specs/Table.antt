@@ -2,6 +2,7 @@
 use Prim.Native.Nat.{ℕ, zero, suc, _+_, _*_}
 use mathlib.Core.List.{List, [], _∷_}
 use lib.ListN.{getD}
+use Rattle.grammar.specs.Records.{linkWidth, paramWidth}
 use Rattle.grammar.specs.Link.{Link, Param}
 
 -- A table as it is lent: the text that its places count in, the slots of both tables, and how many records they hold.
@@ -21,11 +22,11 @@ tableOf text links params n m =
 abbrev pub paramAt : List ℕ → ℕ → Param
 paramAt P j =
     record {
-      nameFrom = getD P (5 * j) 0;
-      nameTo = getD P (5 * j + 1) 0;
-      valueFrom = getD P (5 * j + 2) 0;
-      valueTo = getD P (5 * j + 3) 0;
-      form = getD P (5 * j + 4) 0;
+      nameFrom = getD P (paramWidth * j) 0;
+      nameTo = getD P (paramWidth * j + 1) 0;
+      valueFrom = getD P (paramWidth * j + 2) 0;
+      valueTo = getD P (paramWidth * j + 3) 0;
+      form = getD P (paramWidth * j + 4) 0;
     }
 
 -- n parameter records from number j on
@@ -35,15 +36,15 @@ paramsFrom P j (suc n) = paramAt P j ∷ paramsFrom P (suc j) n
 
 -- of link record number i, 4 slots: number of the first parameter, and count of parameters
 abbrev pub firstOf : List ℕ → ℕ → ℕ
-firstOf L i = getD L (4 * i + 2) 0
+firstOf L i = getD L (linkWidth * i + 2) 0
 
 abbrev pub countOf : List ℕ → ℕ → ℕ
-countOf L i = getD L (4 * i + 3) 0
+countOf L i = getD L (linkWidth * i + 3) 0
 
 -- link number i, with the parameters that the table records for it
 abbrev pub linkAt : List ℕ → List ℕ → ℕ → Link
 linkAt L P i =
-    record { targetFrom = getD L (4 * i) 0; targetTo = getD L (4 * i + 1) 0; params = paramsFrom P (firstOf L i) (countOf L i) }
+    record { targetFrom = getD L (linkWidth * i) 0; targetTo = getD L (linkWidth * i + 1) 0; params = paramsFrom P (firstOf L i) (countOf L i) }
 
 -- n links from number i on
 abbrev pub linksFrom : List ℕ → List ℕ → ℕ → ℕ → List Link

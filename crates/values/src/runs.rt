@@ -7,7 +7,7 @@ ghost use Rattle.tables.specs.Relation.{runs};
 ghost use Rattle.values.specs.Rest.{rest};
 ghost use Rattle.values.specs.Runs.{isNone, Begins, NextRun, RunEnd, MatchRun, agreesAt};
 use crate::meaning::meant_at;
-use octets::compare::fold;
+use folding::fold;
 
 // Where the next run begins, or e.
 pub fn next_run(s: &[u8], from: usize, e: usize) -> usize

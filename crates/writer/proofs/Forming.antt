@@ -9,7 +9,7 @@ use Rattle.kinds.specs.Slots.{IsLink}
 use Rattle.kinds.specs.declared.LinkRecord.{LinkRecord}
 use Rattle.table_check.specs.Parts.{linkOf}
 use Rattle.tables.specs.Table.{Table, paramAt, paramsFrom, linkAt, linksFrom}
-use Rattle.tables.specs.Good.{Span, Good}
+use Rattle.tables.specs.Good.{InText, Good}
 use Rattle.tables.specs.Meaning.{meanings}
 use Rattle.tables.specs.Written.{written}
 use Rattle.values.proofs.InGood.{params-slots, good-param-at, good-link}
@@ -39,7 +39,7 @@ pub first-by-record : {L : List ℕ} (P : List ℕ) {i n : ℕ} {r : LinkRecord}
 first-by-record {L} P {i} {n} l is = first-link L P l ∙ ap (λ k. k ∷ linksFrom L P (suc i) (n - suc i)) (link-of P is)
 
 module _ {t : Table} (g : Good t) {i : ℕ} (l : i < t .linkCount) {r : LinkRecord} (is : IsLink (t .linkSlots) i r) where
-  pub target-span : Span (t .text) (r .target .from .0) (r .target .to .0)
+  pub target-span : InText (t .text) (r .target .from .0) (r .target .to .0)
   target-span = rw (is .from, is .to) (good-link g l .target-span)
 
   pub good-run : GoodRun (t .text) (t .paramSlots) (r .first .0) (r .first .0 + r .count)

@@ -13,7 +13,7 @@ use Rattle.grammar.specs.Kept.{nameOf}
 use Rattle.kinds.specs.declared.LinkRecord.{LinkRecord}
 use Rattle.table_check.specs.Parts.{linkOf}
 use Rattle.tables.specs.Table.{paramsFrom}
-use Rattle.tables.specs.Good.{Span, GoodParam}
+use Rattle.tables.specs.Good.{InText, GoodParam}
 use Rattle.tables.specs.Meaning.{unescapeFrom, unescape, valueOf}
 use Rattle.tables.specs.Written.{isTokenText, escape, writtenValue}
 use Rattle.values.proofs.Values.{value-meant}
@@ -66,7 +66,7 @@ module _ {s : List ℕ} {p : Param} (g : GoodParam s p) where
   param-length = omega (arith, name-length, length-append (nameOf s p) (61 ∷ writtenValue (valueOf s p)))
 
 -- a link's form: the target, `<` and `>`, and the parameters
-pub link-length : (s P : List ℕ) (r : LinkRecord) → Span s (r .target .from .0) (r .target .to .0)
+pub link-length : (s P : List ℕ) (r : LinkRecord) → InText s (r .target .from .0) (r .target .to .0)
     → length (linkForm s (linkOf P r))
     ≡ r .target .to .0 - r .target .from .0 + 2 + length (paramsForm s (paramsFrom P (r .first .0) (r .count)))
 link-length s P r h =

@@ -7,7 +7,7 @@ ghost use Rattle.outcomes.specs.Usable.{Usable};
 ghost use Rattle.outcomes.specs.Write.{writtenForm};
 ghost use Rattle.table_check.specs.Parts.{linkOf};
 ghost use Rattle.tables.specs.Table.{tableOf};
-ghost use Rattle.tables.specs.Good.{Span};
+ghost use Rattle.tables.specs.Good.{InText};
 ghost use Rattle.writer.specs.Put.{Put};
 ghost use Rattle.writer.specs.Forms.{linkForm, parting, GoodRun};
 use crate::octets_out::put;
@@ -30,7 +30,7 @@ fn put_parting(out: &mut [u8], at: usize, first: bool) -> usize
 
 // One link: `<`, target, `>` and its parameters.
 fn put_link(text: &[u8], params: &[usize], l: LinkRecord, out: &mut [u8], at: usize) -> usize
-    requires { ⌜ Span (now text) (l .target .from .0) (l .target .to .0) × GoodRun (now text) (now params) (l .first .0) (l .first .0 + l .count) × (length (now text) ≤ limit) × (at + length (linkForm (now text) (linkOf (now params) l)) ≤ length (now out)) ⌝ }
+    requires { ⌜ InText (now text) (l .target .from .0) (l .target .to .0) × GoodRun (now text) (now params) (l .first .0) (l .first .0 + l .count) × (length (now text) ≤ limit) × (at + length (linkForm (now text) (linkOf (now params) l)) ≤ length (now out)) ⌝ }
     ensures { λ r. ⌜ Put (now (out .entry)) (now (out .exit)) at r (linkForm (now (text .entry)) (linkOf (now (params .entry)) l)) ⌝ }
 {
     let target = put(out, at, b'<');

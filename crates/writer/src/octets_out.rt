@@ -7,7 +7,7 @@ ghost use Rattle.octets.specs.Fold.{folded};
 ghost use Rattle.tables.specs.Written.{escapeOctet, escape};
 ghost use Rattle.values.specs.Rest.{rest};
 ghost use Rattle.writer.specs.Put.{Put};
-use octets::compare::fold;
+use folding::fold;
 use values::meaning::meant_at;
 
 // One octet.

@@ -6,8 +6,7 @@ use mathlib.Core.List.{List, _∷_}
 use lib.ListN.{drop}
 use borrow.Author.Needs.{needs}
 use Rattle.octets.specs.Fold.{fold, folded, sameFolded}
-use Rattle.grammar.specs.Kept.{onceNames}
-use Rattle.names.specs.Code.{codeFrom, codeOf}
+use Rattle.grammar.specs.Kept.{onceNames, codeFrom, codeOf}
 use Rattle.names.proofs.code_of.Statement.{statement}
 use Rattle.names.proofs.code_of.Tie as tie
 

@@ -1,10 +1,10 @@
-// Comparison of texts with A to Z read as a to z.
+// Comparison of texts with A to Z read as a to z (definitions: the crate `octets`).
 ghost use mathlib.Core.Path.{_≡_};
 ghost use Prim.Native.Nat.{_≤_};
 ghost use lib.Dec.{eqb};
 ghost use lib.ListN.{length};
 ghost use lib.Seq.{slice};
 ghost use Rattle.octets.specs.Fold.{fold, sameFolded};
 
 // A to Z become a to z, and no other octet changes.
 pub fn fold(c: u8) -> u8

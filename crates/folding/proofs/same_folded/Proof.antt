@@ -10,10 +10,10 @@ use borrow.Author.Tests.{not-true, not-false}
 use lib.Dec.{eqb}
 use lib.ListN.{length, getD, drop, drop-of-length-le}
 use lib.Seq.{drop-cons}
 use Rattle.octets.specs.Fold.{fold, sameFolded}
 use Rattle.octets.proofs.Laws.{same-lengths}
-use Rattle.octets.proofs.compare.same_folded.Statement.{statement}
-use Rattle.octets.proofs.compare.same_folded.Tie as tie
+use Rattle.folding.proofs.same_folded.Statement.{statement}
+use Rattle.folding.proofs.same_folded.Tie as tie
 
 -- the octets below i agree
 record Passed (x y : List ℕ) (i : ℕ) : Type 0 where

@@ -1,5 +1,6 @@
--- A machine that reads a header one octet at a time. It is a device of the proofs: no definition or promise speaks of it.
--- Each phase holds just the registers that it needs; finished links and parameters are held last first.
+-- A machine that reads a header one octet at a time, with one state for each phase of reading. The grammar says what is derived; the
+-- machine says the same step by step (law `MachineExact`), for the promises of functions that stand somewhere inside a header. No
+-- entry's promise speaks of it. Each phase holds just what it needs; finished links and parameters are held last first.
 use Prim.Native.Nat.{ℕ, suc}
 use mathlib.Core.Bool.{Bool, cond}
 use mathlib.Core.List.{List, [], _∷_, reverse, reverseAux}

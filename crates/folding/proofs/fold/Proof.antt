@@ -1,9 +1,9 @@
 -- `fold` meets its contract. A letter is at most 90, so the sum fits. Assumes nothing.
 use native.Mathlib.Omega.{arith}
 use Rattle.octets.specs.Fold.{fold}
 use Rattle.octets.proofs.Octets.{between-bounds}
-use Rattle.octets.proofs.compare.fold.Statement.{statement}
-use Rattle.octets.proofs.compare.fold.Tie as tie
+use Rattle.folding.proofs.fold.Statement.{statement}
+use Rattle.folding.proofs.fold.Tie as tie
 
 add-result : tie.Need-add-result
 add-result c = omega (arith, between-bounds 65 90 (c .before .args .c) (c .if1 .taken) .1)

@@ -1,9 +1,9 @@
 -- `same_folded_part` meets its contract: the parts that it lends are the slices that the contract speaks of. Assumes nothing.
 use native.Mathlib.Omega.{arith}
 use borrow.Author.Needs.{needs}
 use Rattle.octets.proofs.Laws.{slice-take-drop}
-use Rattle.octets.proofs.compare.same_folded_part.Statement.{statement}
-use Rattle.octets.proofs.compare.same_folded_part.Tie as tie
+use Rattle.folding.proofs.same_folded_part.Statement.{statement}
+use Rattle.folding.proofs.same_folded_part.Tie as tie
 
 sub-same-folded : tie.Need-sub-same-folded
 sub-same-folded c = search needs

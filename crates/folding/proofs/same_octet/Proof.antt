@@ -7,12 +7,12 @@ use mathlib.Core.Path.{_≡_, refl, sym, ap, _∙_}
 use lib.Dec.{eqb}
 use borrow.Author.Needs.{needs}
 use borrow.Author.Tests.{eqb-true, eq-eqb, ne-eqb, le-leb, lt-leb}
 use Rattle.octets.specs.Sets.{between}
 use Rattle.octets.specs.Fold.{fold}
 use Rattle.octets.proofs.Octets.{both, between-bounds}
 use Rattle.octets.proofs.Laws.{fold-other}
-use Rattle.octets.proofs.compare.same_octet.Statement.{statement}
-use Rattle.octets.proofs.compare.same_octet.Tie as tie
+use Rattle.folding.proofs.same_octet.Statement.{statement}
+use Rattle.folding.proofs.same_octet.Tie as tie
 
 told : (a b : Bool) → (a ≡ true → b ≡ true) → (b ≡ true → a ≡ true) → a ≡ b
 told true b f g = sym (f refl)

@@ -1,0 +1,57 @@
+-- Each case of the set is tested by its own test.
+use borrow.Author.Needs.{needs}
+use Rattle.octets.proofs.sets.is_in.Statement.{statement}
+use Rattle.octets.proofs.sets.is_in.Tie as tie
+
+enum-told : tie.Need-enum-told
+enum-told c = search needs
+
+is-blank-requires : tie.Need-is-blank-requires
+is-blank-requires c κs = search needs
+
+enum-told-2 : tie.Need-enum-told-2
+enum-told-2 c = search needs
+
+is-token-requires : tie.Need-is-token-requires
+is-token-requires c κs = search needs
+
+enum-told-3 : tie.Need-enum-told-3
+enum-told-3 c = search needs
+
+is-target-requires : tie.Need-is-target-requires
+is-target-requires c κs = search needs
+
+enum-told-4 : tie.Need-enum-told-4
+enum-told-4 c = search needs
+
+is-plain-requires : tie.Need-is-plain-requires
+is-plain-requires c κs = search needs
+
+returns : tie.Need-returns
+returns c = rw (c .before .enum-told .given .1) (c .is-blank .ensures)
+
+returns-2 : tie.Need-returns-2
+returns-2 c = rw (c .before .enum-told2 .given .1) (c .is-token .ensures)
+
+returns-3 : tie.Need-returns-3
+returns-3 c = rw (c .before .enum-told3 .given .1) (c .is-target .ensures)
+
+returns-4 : tie.Need-returns-4
+returns-4 c = rw (c .before .enum-told4 .given .1) (c .is-plain .ensures)
+
+pub is-in-spec : {M : Type 1} → statement M
+is-in-spec =
+    tie.close
+    (tie.spec
+    enum-told
+    is-blank-requires
+    enum-told-2
+    is-token-requires
+    enum-told-3
+    is-target-requires
+    enum-told-4
+    is-plain-requires
+    returns
+    returns-2
+    returns-3
+    returns-4)
