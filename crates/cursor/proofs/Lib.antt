@@ -1,2 +1,2 @@
 -- The laws of a move past a run, over any set of octets, and of a look at one octet.
-pub mod Going
+pub mod RunSoFar

@@ -1,20 +1,33 @@
 // Where a reading stands. A cursor goes by value, and each move hands back the moved cursor.
 ghost use mathlib.Core.Path.{_≡_};
+ghost use mathlib.Core.Bool.{Bool};
 ghost use Prim.Native.Nat.{_+_, _≤_, _<_};
+ghost use lib.Dec.{leb};
 ghost use lib.ListN.{length};
 ghost use Rattle.octets.specs.Sets.{isBlank, isToken, isPlain, isTarget};
+ghost use Rattle.octets.specs.Member.{isIn};
 ghost use Rattle.cursor.specs.Passed.{Passed, Looked};
 use kinds::Place;
+use kinds::Span;
+use octets::sets::Set;
 
 pub struct Cursor {
     pub at: Place,
 }
 
 impl Cursor {
+    // At the text's first octet.
     pub fn start() -> Cursor
         ensures { λ r. ⌜ r .at .0 ≡ 0 ⌝ }
     {
         Cursor { at: Place(0) }
+    }
+
+    // Whether no octet stands here or further on.
+    pub fn at_end(self, s: &[u8]) -> bool
+        ensures { λ r. ⌜ r ≡ leb (length (now (s .entry))) (self .at .0) ⌝ }
+    {
+        s.len() <= self.at.0
     }
 
     // Whether the octet c stands here.
@@ -28,6 +41,16 @@ impl Cursor {
         false
     }
 
+    // What stands from here up to another cursor.
+    pub fn span_to(self, to: Cursor) -> Span
+        ensures { λ r. ⌜ (r .from .0 ≡ self .at .0) × (r .to .0 ≡ to .at .0) ⌝ }
+    {
+        Span {
+            from: Place(self.at.0),
+            to: Place(to.at.0),
+        }
+    }
+
     // Past one octet.
     pub fn past_octet(self, s: &[u8]) -> Cursor
         requires { ⌜ self .at .0 < length (now s) ⌝ }
@@ -38,16 +61,24 @@ impl Cursor {
         }
     }
 
+    // Past a run of octets of a set.
+    fn past(self, s: &[u8], set: Set) -> Cursor
+        requires { ⌜ self .at .0 ≤ length (now s) ⌝ }
+        ensures { λ r. ⌜ Passed (isIn set) (now (s .entry)) (self .at .0) (r .at .0) ⌝ }
+    {
+        let mut i = self.at.0;
+        while i < s.len() && octets::sets::is_in(set, s[i]) {
+            i += 1;
+        }
+        Cursor { at: Place(i) }
+    }
+
     // Past a run of SP and HTAB.
     pub fn past_blanks(self, s: &[u8]) -> Cursor
         requires { ⌜ self .at .0 ≤ length (now s) ⌝ }
         ensures { λ r. ⌜ Passed isBlank (now (s .entry)) (self .at .0) (r .at .0) ⌝ }
     {
-        let mut i = self.at.0;
-        while i < s.len() && octets::sets::is_blank(s[i]) {
-            i += 1;
-        }
-        Cursor { at: Place(i) }
+        self.past(s, Set::Blank)
     }
 
     // Past a run of token octets.
@@ -55,11 +86,7 @@ impl Cursor {
         requires { ⌜ self .at .0 ≤ length (now s) ⌝ }
         ensures { λ r. ⌜ Passed isToken (now (s .entry)) (self .at .0) (r .at .0) ⌝ }
     {
-        let mut i = self.at.0;
-        while i < s.len() && octets::sets::is_token(s[i]) {
-            i += 1;
-        }
-        Cursor { at: Place(i) }
+        self.past(s, Set::Token)
     }
 
     // Past a run of octets that stand for themselves in a target.
@@ -67,11 +94,7 @@ impl Cursor {
         requires { ⌜ self .at .0 ≤ length (now s) ⌝ }
         ensures { λ r. ⌜ Passed isTarget (now (s .entry)) (self .at .0) (r .at .0) ⌝ }
     {
-        let mut i = self.at.0;
-        while i < s.len() && octets::sets::is_target(s[i]) {
-            i += 1;
-        }
-        Cursor { at: Place(i) }
+        self.past(s, Set::Target)
     }
 
     // Past a run of octets that stand for themselves in a quoted string.
@@ -79,10 +102,6 @@ impl Cursor {
         requires { ⌜ self .at .0 ≤ length (now s) ⌝ }
         ensures { λ r. ⌜ Passed isPlain (now (s .entry)) (self .at .0) (r .at .0) ⌝ }
     {
-        let mut i = self.at.0;
-        while i < s.len() && octets::sets::is_plain(s[i]) {
-            i += 1;
-        }
-        Cursor { at: Place(i) }
+        self.past(s, Set::Plain)
     }
 }

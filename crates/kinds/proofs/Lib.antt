@@ -1,2 +1,3 @@
--- Laws of stores into slots.
-pub mod Stored
+-- Laws about octets stored one behind another, for other crates to cite.
+pub mod Stores
+pub mod Putting

@@ -1,2 +1,2 @@
 -- What the crate `kinds` means by its words.
-pub mod Slots
+pub mod Put

@@ -5,8 +5,8 @@ ghost use Rattle.octets.specs.Fold.{folded, same};
 ghost use Rattle.grammar.specs.Kept.{nameOf};
 ghost use Rattle.tables.specs.Good.{InText};
 ghost use Rattle.kinds.specs.Slots.{toParam};
-use kinds::ParamRecord;
 use folding::same_folded_part;
+use kinds::ParamRecord;
 
 // Whether the parameter's name is n, written in any case.
 fn is_named(text: &[u8], p: ParamRecord, n: &[u8]) -> bool

@@ -1,19 +1,29 @@
--- The kinds of number as they stand in slots.
+-- Records as they stand in slots.
 use Prim.Native.Nat.{ℕ, _+_, _*_}
 use mathlib.Core.Path.{_≡_}
-use mathlib.Core.List.{List, [], _∷_, _++_}
-use lib.ListN.{length, take, drop, getD}
-use Rattle.grammar.specs.Link.{Param}
-use Rattle.tables.specs.Table.{firstOf, countOf}
-use Rattle.kinds.specs.declared.LinkRecord.{LinkRecord}
-use Rattle.kinds.specs.declared.ParamRecord.{ParamRecord}
+use mathlib.Core.List.{List, [], _∷_}
+use lib.ListN.{getD}
+use Rattle.grammar.specs.Link.{Link, Param}
+use Rattle.grammar.specs.Records.{linkWidth}
+use Rattle.tables.specs.Table.{firstOf, countOf, paramsFrom}
+use Rattle.records.specs.declared.LinkRecord.{LinkRecord}
+use Rattle.records.specs.declared.ParamRecord.{ParamRecord}
 
 -- the record r is link record number n of the slots L
 pub record IsLink (L : List ℕ) (n : ℕ) (r : LinkRecord) : Type 0 where
-  pub from : r .target .from .0 ≡ getD L (4 * n) 0
-  pub to : r .target .to .0 ≡ getD L (4 * n + 1) 0
+  pub from : r .target .from .0 ≡ getD L (linkWidth * n) 0
+  pub to : r .target .to .0 ≡ getD L (linkWidth * n + 1) 0
   pub first : r .first .0 ≡ firstOf L n
   pub count : r .count ≡ countOf L n
+
+-- the link that a record stands for, with its parameters from the slots P
+abbrev pub toLink : List ℕ → LinkRecord → Link
+toLink P l =
+    record {
+      targetFrom = l .target .from .0;
+      targetTo = l .target .to .0;
+      params = paramsFrom P (l .first .0) (l .count);
+    }
 
 -- a parameter record as the spans and the form that it holds
 abbrev pub toParam : ParamRecord → Param
@@ -25,10 +35,6 @@ toParam r =
       valueTo = r .value .to .0;
       form = r .form;
     }
-
--- the numbers bs written over the slots `old` from slot `at` on
-abbrev pub over : List ℕ → ℕ → List ℕ → List ℕ
-over old at bs = take at old ++ bs ++ drop (at + length bs) old
 
 -- the numbers of a record, as they stand in slots
 abbrev pub linkNumbers : LinkRecord → List ℕ

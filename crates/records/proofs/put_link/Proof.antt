@@ -1,10 +1,11 @@
--- The four stores are the record's numbers, over the slots.
+-- The stores are the record's numbers, one behind another.
 use native.Mathlib.Omega.{arith}
-use borrow.Author.Needs.{needs}
+use native.Mathlib.Numerals.{add-one, add-two, add-three}
+use mathlib.Core.Path.{refl}
 use lib.ListN.{length-set}
-use Rattle.kinds.proofs.Stored.{link-stored}
-use Rattle.kinds.proofs.put_link.Statement.{statement}
-use Rattle.kinds.proofs.put_link.Tie as tie
+use borrow.Author.Needs.{needs}
+use Rattle.records.proofs.put_link.Statement.{statement}
+use Rattle.records.proofs.put_link.Tie as tie
 
 mul-at : tie.Need-mul-at
 mul-at c = search needs
@@ -46,7 +47,7 @@ same-length : tie.Need-same-length
 same-length c = search needs
 
 returns : tie.Need-returns
-returns c = link-stored _ _ _ _ _ _ (c .before .pre)
+returns c = rw (add-one, add-two, add-three) refl
 
 pub put-link-spec : {M : Type 1} → statement M
 put-link-spec =

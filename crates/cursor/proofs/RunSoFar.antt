@@ -9,7 +9,7 @@ use lib.ListN.{length, getD}
 use Rattle.grammar.specs.Grammar.{In, Run, run-end, run-more}
 use Rattle.cursor.specs.Passed.{Passed}
 
-pub record Going (f : ℕ → Bool) (s : List ℕ) (a i : ℕ) : Type 0 where
+pub record RunSoFar (f : ℕ → Bool) (s : List ℕ) (a i : ℕ) : Type 0 where
   pub forward : a ≤ i
   pub inside : i ≤ length s
   pub run : Run s f a i
@@ -19,10 +19,10 @@ module _ {f : ℕ → Bool} {s : List ℕ} where
   run-snoc run-end c = run-more c run-end
   run-snoc (run-more b r) c = run-more b (run-snoc r c)
 
-  pub begin : {a : ℕ} → a ≤ length s → Going f s a a
+  pub begin : {a : ℕ} → a ≤ length s → RunSoFar f s a a
   begin h = record { forward = omega arith; inside = h; run = run-end }
 
-  pub more : {a i : ℕ} → Going f s a i → i < length s → f (getD s i 0) ≡ true → Going f s a (i + 1)
+  pub more : {a i : ℕ} → RunSoFar f s a i → i < length s → f (getD s i 0) ≡ true → RunSoFar f s a (i + 1)
   more {a} {i} g h e =
       record {
         forward = omega (arith, g .forward);
@@ -30,8 +30,8 @@ module _ {f : ℕ → Bool} {s : List ℕ} where
         run = rw (add-one i) (run-snoc (g .run) (record { inside = h; is = e }));
       }
 
-  pub at-end : {a i : ℕ} → Going f s a i → length s ≤ i → Passed f s a i
+  pub at-end : {a i : ℕ} → RunSoFar f s a i → length s ≤ i → Passed f s a i
   at-end g h = record { forward = g .forward; inside = g .inside; run = g .run; stops = λ l. absurd (omega arith) }
 
-  pub stop : {a i : ℕ} → Going f s a i → f (getD s i 0) ≡ false → Passed f s a i
+  pub stop : {a i : ℕ} → RunSoFar f s a i → f (getD s i 0) ≡ false → Passed f s a i
   stop g e = record { forward = g .forward; inside = g .inside; run = g .run; stops = λ l. e }

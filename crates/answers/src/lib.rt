@@ -1,0 +1,47 @@
+// What entries answer: an enum for each kind of answer, and for each one function that gives the numbers of its cases. The entries
+// for C and the programs take their numbers from here alone.
+ghost use mathlib.Core.Path.{_≡_};
+ghost use Rattle.answers.specs.Refusal.{refusalNumber};
+
+pub mod context;
+pub mod length;
+pub mod read;
+pub mod search;
+
+// The most octets of a header, a text or a written form.
+pub const LIMIT: usize = 8192;
+
+// The number of an answer that refuses nothing.
+pub const DONE: usize = 0;
+
+// The number of a malformed header, whose answer tells a place too.
+pub const MALFORMED: usize = 2;
+
+// Why an entry refuses, where the answer tells nothing but the number.
+pub enum Refusal {
+    TooLong,
+    NoLinkRoom,
+    NoParamRoom,
+    BadTable,
+    NoRelation,
+    NoOutputRoom,
+    NoSuchLink,
+    NotFound,
+}
+
+impl Refusal {
+    pub fn number(self) -> usize
+        ensures { λ r. ⌜ r ≡ refusalNumber self ⌝ }
+    {
+        match self {
+            Refusal::TooLong => 1,
+            Refusal::NoLinkRoom => 3,
+            Refusal::NoParamRoom => 4,
+            Refusal::BadTable => 5,
+            Refusal::NoRelation => 6,
+            Refusal::NoOutputRoom => 7,
+            Refusal::NoSuchLink => 8,
+            Refusal::NotFound => 9,
+        }
+    }
+}

@@ -1,0 +1,1 @@
+-- Laws about slots, for other crates to cite.

@@ -1,0 +1,2 @@
+-- What the crate `records` means by its words.
+pub mod Slots
