@@ -41,6 +41,6 @@ impl Display for Difference {
             library,
             expected,
         } = self;
-        write!(f, "{asked}\n  library:  {library}\n  expected: {expected}")
+        write!(f, "{asked}; answered: {library}; expected: {expected}")
     }
 }
