@@ -1,13 +1,13 @@
 -- The records of a good table: each lies in its slots, and each is good.
-use Prim.Native.Nat.{ℕ, zero, suc, _+_, _-_, _*_, _≤_, _<_}
+use Prim.Native.Nat.{ℕ, zero, suc, _+_, _-_, _≤_, _<_}
 use native.Mathlib.Nat.{le-of-suc-le-suc}
 use native.Mathlib.Omega.{arith}
 use mathlib.Core.Path.{_≡_, subst}
 use mathlib.Core.List.{List, _∷_}
-use lib.ListN.{length}
 use Rattle.grammar.specs.Link.{Link, Param}
+use Rattle.grammar.specs.Records.{linkRoom, paramRoom}
 use Rattle.tables.specs.Table.{Table, firstOf, countOf, paramAt, paramsFrom, linkAt, linksFrom}
 use Rattle.tables.specs.Good.{Each, each-more, Follows, GoodParam, GoodLink, Good}
 
 -- ---- every record of a run of records
 
@@ -48,13 +48,13 @@ follows-end L i (suc n) at m (suc j) f l =
     subst (λ (k : ℕ). firstOf L k + countOf L k ≤ m) e
     (follows-end L (suc i) n (at + countOf L i) m j (f .1) (le-of-suc-le-suc l))
 
--- ---- link number i of a good table, and its parameter at place j
+-- ---- link number i of a good table, and its parameters: by the index within the link, or by the number p in the table
 
 module _ {t : Table} (g : Good t) {i : ℕ} (l : i < t .linkCount) where
   from-zero : 0 + i ≡ i
   from-zero = omega arith
 
-  pub link-slots : 4 * i + 4 ≤ length (t .linkSlots)
+  pub link-slots : i < linkRoom (t .linkSlots)
   link-slots = omega (arith, g .link-room)
 
   pub good-link : GoodLink (t .text) (linkAt (t .linkSlots) (t .paramSlots) i)
@@ -67,14 +67,13 @@ module _ {t : Table} (g : Good t) {i : ℕ} (l : i < t .linkCount) where
       subst (λ (k : ℕ). firstOf (t .linkSlots) k + countOf (t .linkSlots) k ≤ t .paramCount) from-zero
       (follows-end (t .linkSlots) 0 (t .linkCount) 0 (t .paramCount) i (g .follows) l)
 
-  pub params-slots : 5 * (firstOf (t .linkSlots) i + countOf (t .linkSlots) i) ≤ length (t .paramSlots)
+  pub params-slots : firstOf (t .linkSlots) i + countOf (t .linkSlots) i ≤ paramRoom (t .paramSlots)
   params-slots = omega (arith, g .param-room, params-inside)
 
   pub good-param : {j : ℕ} → j < countOf (t .linkSlots) i → GoodParam (t .text) (paramAt (t .paramSlots) (firstOf (t .linkSlots) i + j))
   good-param {j} h =
       each-param (t .paramSlots) (firstOf (t .linkSlots) i) (countOf (t .linkSlots) i) j (good-link .params) h
 
-  -- the same of a parameter by its number
   pub good-param-at : (p : ℕ) → firstOf (t .linkSlots) i ≤ p → p < firstOf (t .linkSlots) i + countOf (t .linkSlots) i
       → GoodParam (t .text) (paramAt (t .paramSlots) p)
   good-param-at p h k =
