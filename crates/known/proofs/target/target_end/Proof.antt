@@ -3,9 +3,9 @@ use Prim.Native.Nat.{_-_}
 use native.Mathlib.Omega.{arith}
 use lib.ListN.{length}
 use borrow.Author.Needs.{needs}
-use Rattle.scanner.proofs.Ends.{Seeking, seek, seek-inside, sought, seek-on}
-use Rattle.scanner.proofs.known.target_end.Statement.{statement}
-use Rattle.scanner.proofs.known.target_end.Tie as tie
+use Rattle.known.proofs.TargetCloses.{Seeking, seek, seek-inside, sought, seek-on}
+use Rattle.known.proofs.target.target_end.Statement.{statement}
+use Rattle.known.proofs.target.target_end.Tie as tie
 
 abbrev Inv-loop : tie.InvT-loop
 Inv-loop s c₀ c = Seeking s (c₀ .at .0) (c .at .0)

@@ -3,9 +3,9 @@ use Prim.Native.Nat.{_-_}
 use native.Mathlib.Omega.{arith}
 use lib.ListN.{length}
 use borrow.Author.Needs.{needs}
-use Rattle.scanner.proofs.Ends.{Quoting, quoting, quoting-inside, quoted-all, pair-inside, quoting-pair, quoting-on}
-use Rattle.scanner.proofs.known.inside_end.Statement.{statement}
-use Rattle.scanner.proofs.known.inside_end.Tie as tie
+use Rattle.known.proofs.QuoteCloses.{Quoting, quoting, quoting-inside, quoted-all, pair-inside, quoting-pair, quoting-on}
+use Rattle.known.proofs.quoted.inside_end.Statement.{statement}
+use Rattle.known.proofs.quoted.inside_end.Tie as tie
 
 abbrev Inv-loop : tie.InvT-loop
 Inv-loop s c₀ c = Quoting s (c₀ .at .0) (c .at .0)
