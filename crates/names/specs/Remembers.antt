@@ -20,6 +20,6 @@ unfoldable pub withCode : Seen → ℕ → Seen
 withCode x k = record { marks = bitOr (x .marks) (2 ^ (k % 8)) }
 
 -- x tells which of the six names are among those listed
-pub record Holds (x : Seen) (earlier : List (List ℕ)) : Type 0 where
+pub record Remembers (x : Seen) (earlier : List (List ℕ)) : Type 0 where
   pub fits : x .marks < 128
   pub tells : (n : List ℕ) → hasCode x (codeOf n) ≡ (isOnce n && among earlier n)
