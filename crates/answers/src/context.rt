@@ -1,6 +1,6 @@
 // Where a link's context lies.
 ghost use mathlib.Core.Path.{_≡_};
-ghost use Rattle.answers.specs.Context.{contextNumbers};
+ghost use Rattle.answers.specs.Context.{contextOut, contextNumbers};
 use crate::DONE;
 use crate::Refusal;
 use kinds::Span;
@@ -28,7 +28,7 @@ pub struct ContextNumbers {
 impl ContextAnswer {
     // With the length of the base.
     pub fn numbers(self, base_len: usize) -> ContextNumbers
-        ensures { λ r. ⌜ r ≡ contextNumbers «base_len» self ⌝ }
+        ensures { λ r. ⌜ r ≡ contextNumbers (contextOut «base_len» self) ⌝ }
     {
         match self {
             ContextAnswer::Anchored(span) => ContextNumbers {

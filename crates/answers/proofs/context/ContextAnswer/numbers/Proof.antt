@@ -1,5 +1,6 @@
 -- Each case of the answer has its numbers.
 use mathlib.Core.Path.{refl}
+use Rattle.answers.proofs.Refusals.{no-refusal-is-done}
 use borrow.Author.Needs.{needs}
 use Rattle.answers.proofs.context.ContextAnswer.numbers.Statement.{statement}
 use Rattle.answers.proofs.context.ContextAnswer.numbers.Tie as tie
@@ -23,7 +24,7 @@ returns-2 : tie.Need-returns-2
 returns-2 c = rw (c .enum-told .given .1) refl
 
 returns-3 : tie.Need-returns-3
-returns-3 c = rw (c .before .before .self2 .given .1) (rw (c .number .ensures) refl)
+returns-3 c = rw (c .before .before .self2 .given .1) (rw (c .number .ensures, no-refusal-is-done) refl)
 
 pub numbers-spec : {M : Type 1} → statement M
 numbers-spec =

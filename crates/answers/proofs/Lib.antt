@@ -1,0 +1,2 @@
+-- Laws about answers, for other crates to cite.
+pub mod Refusals
