@@ -1,23 +1,22 @@
 -- Where the machine stands after one octet more, after a run that leaves its state, and where it can go no further.
-use Prim.Native.Nat.{ℕ, zero, suc, _+_, _≤_, _<_}
+use Prim.Native.Nat.{ℕ, suc, _+_, _≤_, _<_}
 use native.Mathlib.Omega.{arith}
 use mathlib.Core.Path.{_≡_, refl, sym, ap, subst, _∙_}
 use mathlib.Core.Logic.{inl, inr}
-use mathlib.Core.Bool.{Bool, true, false, true≢false, false≢true}
-use mathlib.Core.List.{List, [], _∷_, _++_, reverse}
-use mathlib.Core.Option.{Option, none, some}
-use lib.ListN.{length, take, drop, getD, length-take, take-append-drop}
+use mathlib.Core.Bool.{Bool, true, false, true≢false}
+use mathlib.Core.List.{List, [], _∷_, reverse}
+use mathlib.Core.Option.{none, some}
+use lib.ListN.{length, take, drop, getD, take-append-drop}
 use lib.Seq.{take-suc, take-length, length-take-le}
 use Rattle.grammar.specs.Link.{Link}
-use Rattle.grammar.specs.Grammar.{rfc8288, In, Run, run-end, run-more, Field}
-use Rattle.grammar.specs.Place.{Malformed, Begins, Place}
-use Rattle.grammar.specs.Machine.{State, gap, dead, step, run, settle, inOrder, finish}
+use Rattle.grammar.specs.Grammar.{rfc8288, Run, run-end, run-more, Field}
+use Rattle.grammar.specs.Machine.{State, gap, dead, step, run, settle, inOrder}
 use Rattle.grammar.proofs.Editions.{admissible8288}
 use Rattle.grammar.proofs.Exact.{read-derived}
 use Rattle.grammar.proofs.Readings.{unread-malformed}
 use Rattle.grammar.proofs.Prefix.{run-append, isDead, begins-alive, place-at}
 use Rattle.grammar.specs.Place.{MalformedAt}
-use Rattle.scanner.specs.Stands.{Stands}
+use Rattle.scan_parts.specs.Stands.{Stands}
 
 pub stands-start : (s : List ℕ) → Stands s (gap []) 0
 stands-start s = record { inside = omega arith; is = refl }

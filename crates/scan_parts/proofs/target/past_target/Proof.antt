@@ -1,17 +1,15 @@
 -- The loop passes triples and runs of target octets; each return says why it ended there.
 use Prim.Native.Nat.{_-_}
 use native.Mathlib.Omega.{arith}
-use mathlib.Core.Path.{sym, _∙_}
 use lib.ListN.{length}
 use borrow.Author.Needs.{needs}
-use borrow.Author.Tests.{ne-eqb, not-true}
-use Rattle.scanner.specs.Scanned.{no-target}
-use Rattle.scanner.proofs.Targets.{Going, begin, since, on, past-inside, cut-short, is-closed, no-octet, no-triple}
-use Rattle.scanner.proofs.target.past_target.Statement.{statement}
-use Rattle.scanner.proofs.target.past_target.Tie as tie
+use Rattle.scan_parts.specs.Scanned.{no-target}
+use Rattle.scan_parts.proofs.TargetSoFar.{TargetSoFar, begin, since, more, past-inside, cut-short, is-closed, no-octet, no-triple}
+use Rattle.scan_parts.proofs.target.past_target.Statement.{statement}
+use Rattle.scan_parts.proofs.target.past_target.Tie as tie
 
 abbrev Inv-loop : tie.InvT-loop
-Inv-loop s c₀ c = Going s (c₀ .at .0) (c .at .0)
+Inv-loop s c₀ c = TargetSoFar s (c₀ .at .0) (c .at .0)
 
 abbrev μ-loop : tie.MeasureT-loop
 μ-loop s c₀ c = length s - c .at .0
@@ -24,14 +22,14 @@ loop-holds c = begin (c .past-target .ensures)
 
 returns : tie.Need-returns Inv-loop μ-loop
 returns c =
-    no-target (cut-short (since (c .before .before .past-target .ensures) (c .before .loop .inv)) (c .if1 .taken))
+    no-target (cut-short (since (c .before .before .before .past-target .ensures) (c .before .before .loop .inv)) (c .if1 .taken))
 
 shared-slice-read-if2 : tie.Need-shared-slice-read-if2 Inv-loop μ-loop
 shared-slice-read-if2 c = search needs
 
 returns-2 : tie.Need-returns-2 Inv-loop μ-loop
 returns-2 c =
-    is-closed (since (c .before .before .before .before .past-target .ensures) (c .before .before .before .loop .inv)) (c .before .before .if1 .left) (c .if2 .taken)
+    is-closed (since (c .before .before .before .before .before .past-target .ensures) (c .before .before .before .before .loop .inv)) (c .before .before .if1 .left) (c .if2 .taken)
 
 shared-slice-read-if3 : tie.Need-shared-slice-read-if3 Inv-loop μ-loop
 shared-slice-read-if3 c = search needs
@@ -39,7 +37,7 @@ shared-slice-read-if3 c = search needs
 returns-3 : tie.Need-returns-3 Inv-loop μ-loop
 returns-3 c =
     no-target
-    (no-octet (since (c .before .before .before .before .before .before .past-target .ensures) (c .before .before .before .before .before .loop .inv)) (c .before .before .before .before .if1 .left)
+    (no-octet (since (c .before .before .before .before .before .before .before .past-target .ensures) (c .before .before .before .before .before .before .loop .inv)) (c .before .before .before .before .if1 .left)
     (c .before .before .if2 .left) (c .if3 .taken))
 
 past-octet-requires : tie.Need-past-octet-requires Inv-loop μ-loop
@@ -54,7 +52,7 @@ enum-known-p c = search needs
 returns-4 : tie.Need-returns-4 Inv-loop μ-loop
 returns-4 c =
     no-target
-    (no-triple (since (c .before .before .before .before .before .before .before .before .before .before .before .past-target .ensures) (c .before .before .before .before .before .before .before .before .before .before .loop .inv)) (c .before .before .before .before .before .before .before .before .before .if1 .left)
+    (no-triple (since (c .before .before .before .before .before .before .before .before .before .before .before .before .past-target .ensures) (c .before .before .before .before .before .before .before .before .before .before .before .loop .inv)) (c .before .before .before .before .before .before .before .before .before .if1 .left)
     (c .before .before .before .before .before .if3 .left) (c .before .before .before .before .past-octet .ensures) (c .before .before .before .past-triple .ensures) (c .before .p .given .1))
 
 enum-known-d : tie.Need-enum-known-d Inv-loop μ-loop
@@ -76,7 +74,7 @@ loop-less c =
 
 loop-again : tie.Need-loop-again Inv-loop μ-loop
 loop-again c =
-    on (c .before .before .before .before .before .before .before .before .before .before .before .loop .inv) (c .before .before .before .before .before .before .before .before .before .before .if1 .left) (c .before .before .before .before .before .before .if3 .left) (c .before .before .before .before .before .past-octet .ensures)
+    more (c .before .before .before .before .before .before .before .before .before .before .before .before .loop .inv) (c .before .before .before .before .before .before .before .before .before .before .if1 .left) (c .before .before .before .before .before .before .if3 .left) (c .before .before .before .before .before .past-octet .ensures)
     (c .before .before .before .before .past-triple .ensures) (c .before .before .d .given .1) (c .past-target2 .ensures)
 
 pub past-target-spec : {M : Type 1} → statement M
