@@ -1,19 +1,15 @@
 -- The loop has put the first number and the i numbers behind it.
-use Prim.Native.Nat.{ℕ, _+_, _*_, _-_, _≤_, _<_}
+use Prim.Native.Nat.{_+_, _*_, _-_, _≤_}
 use native.Mathlib.Omega.{arith}
 use mathlib.Core.List.{_∷_, _++_}
 use mathlib.Core.Path.{_≡_, refl}
 use borrow.Author.Needs.{needs}
-use lib.ListN.{length, take}
-use Rattle.lines.specs.Line.{columns}
-use Rattle.lines.specs.Holds.{octetsOf}
-use Rattle.lines.proofs.Columns.{column-first, column-more, line-whole}
-use Rattle.lines.proofs.line.line_of.Statement.{statement}
-use Rattle.lines.proofs.line.line_of.Tie as tie
-use Rattle.lines.proofs.line.line_of.Reads as reads
-use Rattle.lines.proofs.line.line_of.Lts as lts
-use Rattle.lines.proofs.line.Line.with_number.Reads as with-number-reads
-use Rattle.lines.proofs.line.Line.with_octets.Reads as with-octets-reads
+use lib.ListN.{length, take, length-take}
+use Rattle.columns.specs.Line.{columns}
+use Rattle.columns.specs.Holds.{octetsOf}
+use Rattle.columns.proofs.Columns.{column-first, column-more, line-whole}
+use Rattle.columns.proofs.line_of.Statement.{statement}
+use Rattle.columns.proofs.line_of.Tie as tie
 
 abbrev Inv-loop : tie.InvT-loop
 Inv-loop label first rest l₀ i₀ t7 l i =
@@ -30,11 +26,12 @@ with-number-requires c κs = omega (arith, c .with-octets .ensures .end)
 
 loop-holds : tie.Need-loop-holds Inv-loop μ-loop
 loop-holds c =
-    let start = c .before .before .before .before in (
+    let args = c .before .before .before .before .args in
+    let labelled = c .before .with-octets .ensures in (
       omega arith,
       (
-        omega (arith, c .before .with-octets .ensures .end),
-        column-first (start .args .label .now) (start .args .first) (c .before .with-octets .ensures .is) (c .with-number .ensures .0),
+        omega (arith, labelled .end),
+        column-first (args .label .now) (args .first) (labelled .is) (c .with-number .ensures .0),
       ),
     )
 
@@ -56,11 +53,11 @@ loop-less c = omega arith
 loop-again : tie.Need-loop-again Inv-loop μ-loop
 loop-again c =
     let l = c .before .before .before .loop in
-    let start = c .before .before .before .before .before .before .before .before in (
+    let args = c .before .before .before .before .before .before .before .before .args in (
       omega arith,
       (
         omega arith,
-        column-more (start .args .label .now) (start .args .first) (start .args .rest .now) (l .i) (omega arith) (l .inv .1 .1) (c .with-number2 .ensures .0),
+        column-more (args .label .now) (args .first) (args .rest .now) (l .i) (l .inv .1 .1) (omega arith) (c .with-number2 .ensures .0),
       ),
     )
 
@@ -73,10 +70,12 @@ with-octets-requires-2 c κs = omega arith
 returns : tie.Need-returns Inv-loop μ-loop
 returns c =
     let l = c .before .before .before .loop in
-    let start = c .before .before .before .before .before .before .before .before in
+    let args = c .before .before .before .before .before .before .before .before .args in
+    let ended = c .with-octets2 .ensures in
+    let room : length (c .with-octets2 .result .octets) ≡ 160 = search needs in
     record {
-      is = line-whole (start .args .label .now) (start .args .first) (start .args .rest .now) (l .i) (omega arith) (l .inv .1 .1) (c .with-octets2 .ensures);
-      fits = omega (arith, c .with-octets2 .ensures .end);
+      is = line-whole (args .label .now) (args .first) (args .rest .now) (l .i) (l .inv .1 .1) (omega arith) ended;
+      fits = (omega (arith, ended .end), simp length-take (omega (arith, ended .end)));
     }
 
 pub line-of-spec : {M : Type 1} → statement M

@@ -1,16 +1,16 @@
 -- The fewest digits that hold a number, as the library `io` spells them, are its decimal digits. Assumes nothing.
-use Prim.Native.Nat.{ℕ, zero, suc, _+_, _-_, _*_, _/_, _%_, _^_, _<_, _≤_}
+use Prim.Native.Nat.{ℕ, zero, suc, _+_, _-_, _/_, _%_, _^_, _<_, _≤_}
 use native.Mathlib.Nat.{mod-lt, one-le-pow, pow-suc, div-lt-iff-lt-mul, le-div-iff-mul-le, pow-le-pow-right}
 use native.Mathlib.Numerals.{unary-clauses}
 use native.Mathlib.Omega.{arith}
 use mathlib.Core.Bool.{Bool, true, false, cond}
 use mathlib.Core.List.{List, [], _∷_, _++_}
-use mathlib.Core.Path.{_≡_, refl, sym, ap, _∙_}
+use mathlib.Core.Path.{_≡_, refl}
 use borrow.Author.Tests.{ltb-true, ltb-false, lt-ltb, leb-true, leb-false}
 use lib.Dec.{ltb, leb}
 use Rattle.io.specs.Digits.{glyph, digits, Fewest}
-use Rattle.lines.specs.Decimal.{digitsUpTo, decimal}
-use Rattle.lines.proofs.Decimal.{tenth}
+use Rattle.columns.specs.Decimal.{digitsUpTo, decimal}
+use Rattle.columns.proofs.Decimal.{tenth}
 
 glyph-is : (n : ℕ) → glyph (n % 10) ≡ 48 + n % 10
 glyph-is n = rw (lt-ltb (n % 10) 10 (mod-lt n (omega arith)))

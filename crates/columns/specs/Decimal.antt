@@ -8,20 +8,21 @@ use lib.ListN.{getD}
 use Rattle.octets.specs.Text.{octets}
 use Rattle.octets.specs.Sets.{all, isDigit}
 
--- the last digit of n stands behind the digits of n / 10, which has none of its own if n is below 10; at most k digits
+-- the last digit of n, behind those of n / 10 unless n is below 10; k digits at most
 unfoldable pub digitsUpTo : ℕ → ℕ → List ℕ
 digitsUpTo zero n = []
 digitsUpTo (suc k) n = cond (ltb n 10) [] (digitsUpTo k (n / 10)) ++ ((48 + n % 10) ∷ [])
 
--- the digits of n: there are no more than n + 1
+-- the digits of n, most significant first: no more than n + 1
 abbrev pub decimal : ℕ → List ℕ
 decimal n = digitsUpTo (suc n) n
 
--- the number that digits stand for, behind digits that stand for n
+-- the number that digits stand for, where those before them stand for n
 unfoldable pub readFrom : ℕ → List ℕ → ℕ
 readFrom n [] = n
 readFrom n (c ∷ s) = readFrom (10 * n + (c - 48)) s
 
+-- the digits read back as their number, with no zero in front
 pub record DecimalHolds : Type 0 where
   pub digits : (n : ℕ) → all isDigit (decimal n) ≡ true
   pub number : (n : ℕ) → readFrom 0 (decimal n) ≡ n

@@ -4,12 +4,12 @@ use native.Mathlib.Nat.{div-add-mod, mod-lt, mod-eq-of-lt, div-lt-self}
 use native.Mathlib.Omega.{arith}
 use mathlib.Core.Bool.{Bool, true, false, cond, _&&_}
 use mathlib.Core.List.{List, [], _∷_, _++_}
-use mathlib.Core.Path.{_≡_, refl, sym, ap, _∙_}
+use mathlib.Core.Path.{_≡_, refl, _∙_}
 use borrow.Author.Tests.{ltb-true, ltb-false, le-leb}
-use lib.Dec.{ltb, leb}
+use lib.Dec.{ltb}
 use lib.ListN.{getD}
 use Rattle.octets.specs.Sets.{all, isDigit}
-use Rattle.lines.specs.Decimal.{digitsUpTo, readFrom, DecimalHolds}
+use Rattle.columns.specs.Decimal.{digitsUpTo, readFrom, DecimalHolds}
 
 -- n is 10 or more: n / 10 is below any bound on the digits behind it
 pub tenth : {n k : ℕ} → n < suc k → ltb n 10 ≡ false → n / 10 < k
@@ -27,11 +27,11 @@ is-digit n =
 
 all-then : (s : List ℕ) (c : ℕ) → all isDigit s ≡ true → isDigit c ≡ true → all isDigit (s ++ (c ∷ [])) ≡ true
 all-then [] c h d = rw d
-all-then (x ∷ s) c h d = go (isDigit x) h (all-then s c)
+all-then (x ∷ s) c h d = go (isDigit x) h (λ e. all-then s c e d)
   where
-    go : (b : Bool) → b && all isDigit s ≡ true → (all isDigit s ≡ true → isDigit c ≡ true → all isDigit (s ++ (c ∷ [])) ≡ true)
+    go : (b : Bool) → b && all isDigit s ≡ true → (all isDigit s ≡ true → all isDigit (s ++ (c ∷ [])) ≡ true)
         → b && all isDigit (s ++ (c ∷ [])) ≡ true
-    go true h rest = rest h d
+    go true h rest = rest h
     go false h rest = h
 
 digits-step : (b : Bool) (n : ℕ) (s : List ℕ) → (b ≡ false → all isDigit s ≡ true)
@@ -85,7 +85,9 @@ unfolding digitsUpTo
 front-holds zero n h p = absurd (omega arith)
 front-holds (suc k) n h p =
     front-step (ltb n 10) n (digitsUpTo k (n / 10)) p refl
-    (λ e. let large = ltb-false n 10 e in front-holds k (n / 10) (tenth h e) (omega (arith, div-add-mod n 10, mod-lt n {m = 10} (omega arith))))
+    (λ e.
+    let large = ltb-false n 10 e in
+    front-holds k (n / 10) (tenth h e) (omega (arith, div-add-mod n 10, mod-lt n {m = 10} (omega arith))))
 
 pub decimal-holds : DecimalHolds
 unfolding digitsUpTo

@@ -1,11 +1,10 @@
-// A line by value, grown at its end.
+// A line by value: a label and columns of numbers, parted by HTAB and ended by LF. Nothing is written out here.
 ghost use Prim.Native.Nat.{_+_, _*_, _≤_};
-ghost use mathlib.Core.List.{_∷_, _++_};
+ghost use mathlib.Core.List.{_∷_};
 ghost use lib.ListN.{length};
-ghost use Rattle.lines.specs.Decimal.{decimal};
-ghost use Rattle.lines.specs.Holds.{octetsOf, Grown, Holds};
-ghost use Rattle.lines.specs.Line.{tab};
-ghost use Rattle.lines.specs.Line.{line};
+ghost use Rattle.columns.specs.Decimal.{decimal, DecimalHolds};
+ghost use Rattle.columns.specs.Holds.{Grown, Holds};
+ghost use Rattle.columns.specs.Line.{tab, line};
 
 // Room for a label of 7 octets, 7 numbers of 20 digits, each behind its HTAB, and LF.
 pub struct Line {
@@ -43,7 +42,7 @@ impl Line {
     }
 }
 
-// A label and a number, and further numbers.
+// A label, a number, and the rest of the numbers.
 pub fn line_of(label: &[u8], first: usize, rest: &[usize]) -> Line
     requires { ⌜ length (now label) + 21 * (1 + length (now rest)) + 1 ≤ 160 ⌝ }
     ensures { λ r. ⌜ Holds r (line (now (label .entry)) (first ∷ now (rest .entry))) ⌝ }
@@ -60,3 +59,8 @@ pub fn line_of(label: &[u8], first: usize, rest: &[usize]) -> Line
     }
     l.with_octets(b"\n")
 }
+
+// Digits read back as their number, and have no zero in front.
+pub fn decimal_holds()
+    ensures { λ _. ⌜ DecimalHolds ⌝ }
+{}
