@@ -1,23 +1,24 @@
--- Filling in one link: its target, its parameters and its own record.
-use Prim.Native.Nat.{ℕ, suc, _+_, _-_, _*_, _≤_, _<_}
+-- One link written: its target and its parameters are known to stand there, and there is room for its record.
+use Prim.Native.Nat.{ℕ, _+_, _-_, _*_, _<_}
 use native.Mathlib.Omega.{arith}
 use native.Mathlib.Numerals.{add-one}
-use mathlib.Core.Path.{_≡_, refl, sym, ap, subst, _∙_}
-use mathlib.Core.List.{List, [], _∷_, map, reverse}
+use mathlib.Core.Path.{_≡_, sym, ap₂, subst, _∙_}
+use mathlib.Core.List.{List, [], _∷_, reverse}
 use lib.ListN.{length}
-use Rattle.grammar.specs.Link.{Link}
+use lib.Seq.{sets}
 use Rattle.grammar.specs.Grammar.{At, Target}
-use Rattle.grammar.specs.Kept.{keepAfter, keptLink}
-use Rattle.grammar.specs.Records.{recordsOf}
+use Rattle.grammar.specs.Kept.{keepAfter}
+use Rattle.grammar.specs.Records.{linkWidth, linkRoom}
 use Rattle.grammar.specs.Machine.{opened}
-use Rattle.kinds.specs.Slots.{over}
-use Rattle.scanner.specs.Stands.{Ready}
-use Rattle.scanner.specs.Known.{KnownTarget}
+use Rattle.kinds.specs.declared.Span.{Span}
+use Rattle.scan_parts.specs.Stands.{Ready}
+use Rattle.scan_parts.proofs.ReadyBehindValue.{ready-after}
+use Rattle.scan_parts.proofs.PassedIsParsed.{Spans}
 use Rattle.scanner.specs.Linked.{Chain}
-use Rattle.scanner.proofs.Links.{after-close}
-use Rattle.scanner.proofs.Params.{ready-after}
-use Rattle.reader.specs.Filling.{BeforeParams, ParamsFilled, BeforeLink, LinkFilled}
-use Rattle.reader.proofs.Total.{ready-whole, whole-links}
+use Rattle.scanner.proofs.ReadyBehindLink.{after-close}
+use Rattle.known.specs.Known.{KnownTarget}
+use Rattle.filling.specs.Filling.{BeforeParams, ParamsFilled, BeforeLink, LinkFilled}
+use Rattle.filling.proofs.PartOfReading.{part-links}
 
 module _ {s L P : List ℕ} {a n m : ℕ} (b : BeforeLink s L P a n m) where
   -- a target is known to stand there
@@ -44,17 +45,12 @@ module _ {s L P : List ℕ} {a n m : ℕ} (b : BeforeLink s L P a n m) where
           number = b .param-number;
         }
 
-    pub link-room : 4 * n + 4 ≤ length L
-    link-room =
-        let (ps, Q, w) = ready-whole (b .derived) ready in
-        let h = subst (λ (R : List Link). suc (length (b .links)) ≤ length R) (sym w)
-        (whole-links s (opened (b .links) a c) ps Q)
-        in
-        omega (arith, h, b .link-room, b .link-number)
+    pub link-room : n < linkRoom L
+    link-room = omega (arith, part-links (b .derived) ready, b .link-room, b .link-number)
 
-    pub link-filled : {i x : ℕ} {L′ P′ : List ℕ} → ParamsFilled s j i m x P P′
-        → L′ ≡ over L (4 * n) (a ∷ c ∷ m ∷ (x - m) ∷ []) → LinkFilled s a i n m x L L′ P P′
-    link-filled {i} {x} f w =
+    pub link-filled : {i x : ℕ} {t : Span} {L′ P′ : List ℕ} → ParamsFilled s j i m x P P′ → Spans t a c
+        → L′ ≡ sets L (linkWidth * n) (t .from .0 ∷ t .to .0 ∷ m ∷ (x - m) ∷ []) → LinkFilled s a i n m x L L′ P P′
+    link-filled {i} {x} f p w =
         let kept : x - m ≡ length (keepAfter s [] (reverse (f .params))) = omega (arith, f .next) in
         record {
           count = x - m;
@@ -74,6 +70,7 @@ module _ {s L P : List ℕ} {a n m : ℕ} (b : BeforeLink s L P a n m) where
                     };
               };
           next = omega (arith, f .next);
-          links-written = w;
+          links-written =
+              w ∙ ap₂ (λ (y z : ℕ). sets L (linkWidth * n) (y ∷ z ∷ m ∷ (x - m) ∷ [])) (p .0) (p .1);
           params-written = f .written;
         }

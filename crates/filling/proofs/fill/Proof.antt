@@ -1,10 +1,10 @@
--- Each turn passes an empty place or fills in a link.
+-- Each turn passes an empty item or fills in a link.
 use Prim.Native.Nat.{_-_}
 use native.Mathlib.Omega.{arith}
 use lib.ListN.{length}
 use borrow.Author.Needs.{needs}
-use Rattle.reader.proofs.Whole.{
-  Filling,
+use Rattle.filling.proofs.LinksWritten.{
+  LinksWritten,
   filling-start,
   filling-lengths,
   links-few,
@@ -13,13 +13,14 @@ use Rattle.reader.proofs.Whole.{
   before-link,
   filled-behind,
   link-on,
+  behind-inside,
+  lengths-kept,
 }
-use Rattle.reader.proofs.Whole.{behind-inside, lengths-kept}
-use Rattle.reader.proofs.fill.fill.Statement.{statement}
-use Rattle.reader.proofs.fill.fill.Tie as tie
+use Rattle.filling.proofs.fill.Statement.{statement}
+use Rattle.filling.proofs.fill.Tie as tie
 
 abbrev Inv-loop : tie.InvT-loop
-Inv-loop s links₀ params₀ c₀ n₀ m₀ links params c n m = Filling s links₀ params₀ (c .at .0) (n .0) (m .0) links params
+Inv-loop s links₀ params₀ c₀ n₀ m₀ links params c n m = LinksWritten s links₀ params₀ (c .at .0) (n .0) (m .0) links params
 
 abbrev μ-loop : tie.MeasureT-loop
 μ-loop s links₀ params₀ c₀ n₀ m₀ links params c n m = length s - c .at .0
@@ -67,7 +68,13 @@ fill-link-requires : tie.Need-fill-link-requires Inv-loop μ-loop
 fill-link-requires c κs = before-link (c .before .before .before .before .before .before .before .before .before .before .before .before .before .before .before .pre) (c .before .before .before .before .before .before .before .before .loop .inv) (c .before .before .before .before .before .before .before .past-blanks .ensures) (c .before .before .before .before .before .if1 .left) ((c .before .before .before .before .sees .ensures .not) (c .before .before .before .if2 .left) (c .before .before .before .before .before .if1 .left)) (c .before .before .past-octet2 .ensures)
 
 next-requires : tie.Need-next-requires Inv-loop μ-loop
-next-requires c κs = omega (arith, links-few (c .before .before .before .before .before .before .before .before .before .before .before .before .before .before .before .before .before .before .before .before .pre) (c .before .before .before .before .before .before .before .before .before .before .before .before .before .loop .inv), c .before .before .before .before .before .before .before .before .before .before .before .before .before .before .before .before .before .before .before .before .good .1 .0 .0)
+next-requires c κs =
+    omega (
+      arith,
+      links-few (c .before .before .before .before .before .before .before .before .before .before .before .before .before .before .before .before .before .before .before .before .pre) (c .before .before .before .before .before .before .before .before .before .before .before .before .before .loop .inv) (c .before .before .before .before .before .before .before .before .before .before .before .before .past-blanks .ensures) (c .before .before .before .before .before .before .before .before .before .before .if1 .left)
+          ((c .before .before .before .before .before .before .before .before .before .sees .ensures .not) (c .before .before .before .before .before .before .before .before .if2 .left) (c .before .before .before .before .before .before .before .before .before .before .if1 .left)) (c .before .before .before .before .before .before .before .past-octet2 .ensures) (c .before .before .before .before .fill-link .ensures),
+      c .before .before .before .before .before .before .before .before .before .before .before .before .before .before .before .before .before .before .before .before .good .1 .0 .0,
+    )
 
 same-length-3 : tie.Need-same-length-3 Inv-loop μ-loop
 same-length-3 c =

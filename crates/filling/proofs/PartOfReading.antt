@@ -5,16 +5,16 @@ use native.Mathlib.Decide.{decLe}
 use mathlib.Core.Path.{_≡_, refl, sym, ap, subst, _∙_}
 use mathlib.Core.Logic.{_⊎_, inl, inr}
 use mathlib.Core.Bool.{Bool, true, false, cond, true≢false}
-use mathlib.Core.List.{List, [], _∷_, _++_, map, reverse, reverseAux, reverseAux-eq}
+use mathlib.Core.List.{List, [], _∷_, map, reverse, reverseAux, reverseAux-eq}
 use lib.Dec.{eqb}
-use lib.ListN.{length, take, getD, length-append, length-map, length-reverseAux}
+use lib.ListN.{length, take, getD, length-append, length-reverseAux}
 use borrow.Author.Tests.{eqb-true}
 use Rattle.octets.specs.Sets.{isBlank}
 use Rattle.grammar.specs.Link.{Link, Param}
 use Rattle.grammar.specs.Grammar.{rfc8288, At, Field}
 use Rattle.grammar.specs.Kept.{nameOf, keepAfter, keptLink}
 use Rattle.grammar.specs.Records.{countParams}
-use Rattle.grammar.specs.Machine.{State, gap, target, after, semi, dead, run, step, Open, next, close}
+use Rattle.grammar.specs.Machine.{State, gap, after, semi, dead, run, step, Open, close}
 use Rattle.grammar.proofs.Rest.{
   whole,
   Rest,
@@ -37,10 +37,10 @@ use Rattle.grammar.proofs.Forward.{forward}
 use Rattle.grammar.proofs.Editions.{admissible8288}
 use Rattle.grammar.proofs.Readings.{one-derived}
 use Rattle.grammar.proofs.Raise.{map-reverseAux}
-use Rattle.scanner.specs.Stands.{Stands, Ready}
-use Rattle.scanner.proofs.Standing.{stands-step, finishes}
-use Rattle.scanner.proofs.Links.{keep-append}
-use Rattle.scanner.proofs.Headers.{count-reverse}
+use Rattle.scan_parts.specs.Stands.{Stands, Ready}
+use Rattle.scan_parts.proofs.Standing.{stands-step, finishes}
+use Rattle.scanner.proofs.KeptMore.{keep-append}
+use Rattle.scanner.proofs.BetweenLinks.{count-reverse}
 
 -- nothing is asked of a dead machine
 pub rest-alive : {s : List ℕ} {st : State} {i : ℕ} {R : List Link} → Rest rfc8288 s st i R → isDead st ≡ false
@@ -57,6 +57,28 @@ rest-alive (r-bare t a) = refl
 rest-alive (r-wide r a) = refl
 rest-alive (r-quote t k a) = refl
 rest-alive (r-escape x t k a) = refl
+
+-- a header of these links and more has as many links and kept parameters at least
+module _ (s : List ℕ) (o : Open) (ps : List Param) (Q : List Link) where
+  whole-links : suc (length (o .done)) ≤ length (whole o ps Q)
+  whole-links = omega (arith, length-reverseAux (o .done) (record { targetFrom = o .targetFrom; targetTo = o .targetTo; params = reverseAux (o .params) ps } ∷ Q))
+
+  whole-params : countParams (map (keptLink s) (o .done)) + length (keepAfter s [] (reverse (o .params)))
+      ≤ countParams (map (keptLink s) (whole o ps Q))
+  whole-params =
+      let l : Link = record { targetFrom = o .targetFrom; targetTo = o .targetTo; params = reverseAux (o .params) ps } in
+      let e : countParams (map (keptLink s) (whole o ps Q))
+      ≡ countParams (map (keptLink s) (o .done)) + countParams (map (keptLink s) (l ∷ Q)) =
+      ap countParams (sym (map-reverseAux (keptLink s) (o .done) (l ∷ Q)))
+      ∙ count-reverse (map (keptLink s) (o .done)) (map (keptLink s) (l ∷ Q))
+      in
+      let k : length (keepAfter s [] (reverseAux (o .params) ps))
+      ≡ length (keepAfter s [] (reverse (o .params)))
+      + length (keepAfter s (reverseAux (map (nameOf s) (reverse (o .params))) []) ps) =
+      ap (λ (x : List Param). length (keepAfter s [] x)) (reverseAux-eq (o .params) ps)
+      ∙ ap length (keep-append s [] (reverse (o .params)) ps) ∙ length-append (keepAfter s [] (reverse (o .params))) _
+      in
+      omega (arith, e, k)
 
 module _ {s : List ℕ} {R : List Link} (f : Field rfc8288 s R) where
   rest-at : (i : ℕ) → i ≤ length s → Rest rfc8288 s (run rfc8288 (gap []) 0 (take i s)) i R
@@ -81,7 +103,7 @@ module _ {s : List ℕ} {R : List Link} (f : Field rfc8288 s R) where
   stands-rest {i = i} p = subst (λ (x : State). Rest rfc8288 s x i R) (p .is) (rest-at i (p .inside))
 
   -- the open link, with more parameters behind, is one of the header's
-  pub ready-whole : {o : Open} {i : ℕ} → Ready s o i → (ps : List Param) × (Q : List Link) × (R ≡ whole o ps Q)
+  ready-whole : {o : Open} {i : ℕ} → Ready s o i → (ps : List Param) × (Q : List Link) × (R ≡ whole o ps Q)
   ready-whole {o} {i} r = test (decLe (length s) i)
     where
       go : {Z : List Link} {j : ℕ} (x y z : Bool)
@@ -97,6 +119,23 @@ module _ {s : List ℕ} {R : List Link} (f : Field rfc8288 s R) where
           let l : i < length s = omega arith in
           go (isBlank (getD s i 0)) (eqb (getD s i 0) 59) (eqb (getD s i 0) 44)
           (subst (λ (x : State). Rest rfc8288 s x (suc i) R) (r .steps l) (stands-rest (stands-step (r .stands) l)))
+
+  -- so the links and the kept parameters counted so far are no more than the header's
+  pub part-links : {o : Open} {i : ℕ} → Ready s o i → suc (length (o .done)) ≤ length R
+  part-links {o} r =
+      let (ps, Q, e) = ready-whole r in
+      subst (λ (X : List Link). suc (length (o .done)) ≤ length X) (sym e) (whole-links s o ps Q)
+
+  pub part-params : {o : Open} {i : ℕ} → Ready s o i
+      → countParams (map (keptLink s) (o .done)) + length (keepAfter s [] (reverse (o .params)))
+      ≤ countParams (map (keptLink s) R)
+  part-params {o} r =
+      let (ps, Q, e) = ready-whole r in
+      subst
+      (λ (X : List Link).
+      countParams (map (keptLink s) (o .done)) + length (keepAfter s [] (reverse (o .params)))
+      ≤ countParams (map (keptLink s) X))
+      (sym e) (whole-params s o ps Q)
 
   -- behind blanks, where no further parameter begins, the link ends
   pub ready-ends : {o : Open} {i : ℕ} → Ready s o i → (i < length s → isBlank (getD s i 0) ≡ false)
@@ -116,25 +155,3 @@ module _ {s : List ℕ} {R : List Link} (f : Field rfc8288 s R) where
           go false e w =
               let died : step rfc8288 (r .state) i (getD s i 0) ≡ dead = r .steps l ∙ rw (b l, q l, e) in
               absurd (true≢false (rest-alive (subst (λ (x : State). Rest rfc8288 s x (suc i) R) died w)))
-
-module _ (s : List ℕ) (o : Open) (ps : List Param) (Q : List Link) where
-  -- so the links and the kept parameters counted so far are no more than the header's
-  pub whole-links : suc (length (o .done)) ≤ length (whole o ps Q)
-  whole-links = omega (arith, length-reverseAux (o .done) (record { targetFrom = o .targetFrom; targetTo = o .targetTo; params = reverseAux (o .params) ps } ∷ Q))
-
-  pub whole-params : countParams (map (keptLink s) (o .done)) + length (keepAfter s [] (reverse (o .params)))
-      ≤ countParams (map (keptLink s) (whole o ps Q))
-  whole-params =
-      let l : Link = record { targetFrom = o .targetFrom; targetTo = o .targetTo; params = reverseAux (o .params) ps } in
-      let e : countParams (map (keptLink s) (whole o ps Q))
-      ≡ countParams (map (keptLink s) (o .done)) + countParams (map (keptLink s) (l ∷ Q)) =
-      ap countParams (sym (map-reverseAux (keptLink s) (o .done) (l ∷ Q)))
-      ∙ count-reverse (map (keptLink s) (o .done)) (map (keptLink s) (l ∷ Q))
-      in
-      let k : length (keepAfter s [] (reverseAux (o .params) ps))
-      ≡ length (keepAfter s [] (reverse (o .params)))
-      + length (keepAfter s (reverseAux (map (nameOf s) (reverse (o .params))) []) ps) =
-      ap (λ (x : List Param). length (keepAfter s [] x)) (reverseAux-eq (o .params) ps)
-      ∙ ap length (keep-append s [] (reverse (o .params)) ps) ∙ length-append (keepAfter s [] (reverse (o .params))) _
-      in
-      omega (arith, e, k)
