@@ -11,7 +11,7 @@ abbrev pub octetsOf : Line → List ℕ
 octetsOf l = take (l .len) (l .octets)
 
 -- the line holds just s, and may be cut where it ends
-pub record Holds (l : Line) (s : List ℕ) : Type 0 where
+pub record LineHolds (l : Line) (s : List ℕ) : Type 0 where
   pub is : octetsOf l ≡ s
   pub fits : Counts (l .len) (l .octets)
 
