@@ -1,9 +1,9 @@
 -- The cursor passes the run of token octets in the text cut at the part's end.
 use mathlib.Core.Path.{sym}
 use lib.Seq.{length-take-le}
-use Rattle.table_check.proofs.Tokens.{token-told}
-use Rattle.table_check.proofs.parts.is_token_part.Statement.{statement}
-use Rattle.table_check.proofs.parts.is_token_part.Tie as tie
+use Rattle.part_check.proofs.Tokens.{token-told}
+use Rattle.part_check.proofs.is_token_part.Statement.{statement}
+use Rattle.part_check.proofs.is_token_part.Tie as tie
 
 slice-aggregate-past-token : tie.Need-slice-aggregate-past-token
 slice-aggregate-past-token c = sym (length-take-le _ _ (c .before .before .before .pre .inside))

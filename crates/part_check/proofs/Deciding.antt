@@ -4,7 +4,7 @@ use mathlib.Core.Path.{_≡_, refl, sym, _∙_}
 use mathlib.Core.Bool.{Bool, true, false, _&&_, false≢true, true≢false}
 use lib.Dec.{leb, ltb, eqb}
 use borrow.Author.Tests.{leb-true, ltb-true, eqb-true, le-leb, lt-ltb, eqb-false}
-use Rattle.table_check.specs.Decides.{Decides}
+use Rattle.part_check.specs.Decides.{Decides}
 
 module _ {X : Type 0} where
   pub is-so : X → Decides true X

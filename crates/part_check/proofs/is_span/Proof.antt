@@ -1,7 +1,7 @@
 -- The two tests decide the two clauses of a span.
-use Rattle.table_check.proofs.Deciding.{also, both, tests-le}
-use Rattle.table_check.proofs.parts.is_span.Statement.{statement}
-use Rattle.table_check.proofs.parts.is_span.Tie as tie
+use Rattle.part_check.proofs.Deciding.{also, both, tests-le}
+use Rattle.part_check.proofs.is_span.Statement.{statement}
+use Rattle.part_check.proofs.is_span.Tie as tie
 
 returns : tie.Need-returns
 returns c =

@@ -14,8 +14,8 @@ use Rattle.grammar.specs.Grammar.{Run, run-end, run-more, Token}
 use Rattle.tables.specs.Good.{InText}
 use Rattle.tables.proofs.Texts.{run-le}
 use Rattle.cursor.specs.Passed.{Passed}
-use Rattle.table_check.specs.Decides.{Decides}
-use Rattle.table_check.proofs.Deciding.{also, both, tests-lt, tests-eq}
+use Rattle.part_check.specs.Decides.{Decides}
+use Rattle.part_check.proofs.Deciding.{also, both, tests-lt, tests-eq}
 
 module _ (s : List ℕ) {f : ℕ → Bool} where
   -- every octet of a run is in the set
