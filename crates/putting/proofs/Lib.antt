@@ -1,0 +1,3 @@
+-- Laws of putting octets into a buffer.
+pub mod PutUpTo
+pub mod Parts
