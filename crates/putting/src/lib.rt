@@ -5,6 +5,7 @@ ghost use lib.ListN.{length};
 ghost use Rattle.kinds.specs.Put.{Put};
 use kinds::OutPlace;
 
+pub mod escaped;
 pub mod part;
 
 // One octet.
