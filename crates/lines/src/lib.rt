@@ -1,13 +1,9 @@
-// The lines of a listing, each as a value, and the input without the LF that ends it. Nothing is written here.
-ghost use Rattle.lines.specs.Decimal.{DecimalHolds};
+// The lines of a listing, each as a value, and the input without the LF that ends it. Nothing is read or written here.
+ghost use Rattle.columns.specs.Holds.{Holds};
 ghost use Rattle.lines.specs.FinalLf.{IsTrimmed};
-ghost use Rattle.lines.specs.Holds.{Holds};
 ghost use Rattle.lines.specs.Line.{countsLine, linkLine, paramLine, refusalLine};
-use crate::line::line_of;
-
-mod line;
-
-pub use line::Line;
+use columns::Line;
+use columns::line_of;
 
 pub fn counts_line(links: usize, params: usize) -> Line
     ensures { λ r. ⌜ Holds r (countsLine links params) ⌝ }
@@ -43,8 +39,3 @@ pub fn without_final_lf(s: &[u8]) -> &[u8]
     }
     s
 }
-
-// The digits read back as the number, with no zero in front.
-pub fn decimal_holds()
-    ensures { λ _. ⌜ DecimalHolds ⌝ }
-{}
