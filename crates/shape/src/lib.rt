@@ -2,16 +2,20 @@
 ghost use mathlib.Core.Path.{_≡_};
 ghost use Prim.Native.Nat.{_*_, _≤_};
 ghost use lib.ListN.{length};
-ghost use Rattle.kinds.specs.Slots.{toParam};
 ghost use Rattle.outcomes.specs.Number.{limit};
-ghost use Rattle.tables.specs.Good.{GoodParam};
+ghost use Rattle.records.specs.Slots.{toParam};
+ghost use Rattle.tables.specs.Good.{InText, GoodParam};
 ghost use Rattle.tables.specs.Meaning.{valueOf};
 ghost use Rattle.tables.specs.Written.{isTokenText, writtenValue};
 ghost use Rattle.values.specs.Rest.{rest};
-ghost use Rattle.writer.specs.Shape.{escapedLen, lenFor};
-use kinds::ParamRecord;
+ghost use Rattle.shape.specs.Shape.{escapedLen, lenFor};
+use kinds::Span;
 use octets::sets::is_token;
-use values::meaning::meant_at;
+use records::ParamRecord;
+use values::meant_at;
+
+// The form of a value that is a token.
+const TOKEN: usize = 1;
 
 // How many octets a value takes that has n when it is escaped, and whose octets are all token octets or not.
 fn len_for(n: usize, tokens: bool) -> usize
@@ -28,57 +32,62 @@ fn escaped_len(c: u8) -> usize
     if (c == b'"') | (c == b'\\') { 2 } else { 1 }
 }
 
-// How many octets what the part from a to e means takes.
-fn meant_len(s: &[u8], a: usize, e: usize) -> usize
-    requires { ⌜ (a ≤ e) × (e ≤ length (now s)) × (length (now s) ≤ limit) ⌝ }
-    ensures { λ r. ⌜ r ≡ length (writtenValue (rest (now (s .entry)) e a)) ⌝ }
+// How many octets what the part means takes.
+fn meant_len(s: &[u8], part: Span) -> usize
+    requires { ⌜ InText (now s) (part .from .0) (part .to .0) ⌝ }
+    requires { ⌜ length (now s) ≤ limit ⌝ }
+    ensures { λ r. ⌜ r ≡ length (writtenValue (rest (now (s .entry)) (part .to .0) (part .from .0))) ⌝ }
 {
+    let e = part.to;
     let mut n = 0;
     let mut tokens = true;
-    let mut k = a;
-    while k < e {
+    let mut k = part.from;
+    while k.0 < e.0 {
         let p = meant_at(s, k, e);
-        if p >= e {
+        if p.0 >= e.0 {
             return len_for(n, tokens);
         }
-        let c = s[p];
+        let i = p.0;
+        let c = s[i];
         n += escaped_len(c);
         tokens = tokens & is_token(c);
-        k = p + 1;
+        k = p.next();
     }
     len_for(n, tokens)
 }
 
 // How many octets a parameter's value takes. A token takes as many as it has, and isn't looked at again.
 pub fn value_len(text: &[u8], p: ParamRecord) -> usize
-    requires { ⌜ GoodParam (now text) (toParam p) × (length (now text) ≤ limit) ⌝ }
+    requires { ⌜ GoodParam (now text) (toParam p) ⌝ }
+    requires { ⌜ length (now text) ≤ limit ⌝ }
     ensures { λ r. ⌜ r ≡ length (writtenValue (valueOf (now (text .entry)) (toParam p))) ⌝ }
 {
-    let a = p.value.from.0;
-    let e = p.value.to.0;
-    if p.form == 1 {
-        return e - a;
+    if p.form == TOKEN {
+        return p.value.len();
     }
-    meant_len(text, a, e)
+    meant_len(text, p.value)
 }
 
-// Whether what the part from a to e means is a token. The first octet that isn't a token's decides.
-fn means_token(s: &[u8], a: usize, e: usize) -> bool
-    requires { ⌜ (a ≤ e) × (e ≤ length (now s)) ⌝ }
-    ensures { λ r. ⌜ r ≡ isTokenText (rest (now (s .entry)) e a) ⌝ }
+// Whether what the part means is a token. The first octet that isn't a token's decides.
+fn means_token(s: &[u8], part: Span) -> bool
+    requires { ⌜ InText (now s) (part .from .0) (part .to .0) ⌝ }
+    ensures { λ r. ⌜ r ≡ isTokenText (rest (now (s .entry)) (part .to .0) (part .from .0)) ⌝ }
 {
+    let a = part.from;
+    let e = part.to;
     let mut k = a;
-    while k < e {
+    while k.0 < e.0 {
         let p = meant_at(s, k, e);
-        if p >= e {
-            return k > a;
+        if p.0 >= e.0 {
+            return k.0 > a.0;
         }
-        if !is_token(s[p]) {
+        let i = p.0;
+        if !is_token(s[i]) {
             return false;
         }
-        k = p + 1;
+        k = p.next();
     }
-    k > a
+    k.0 > a.0
 }
 
 // Whether a parameter's value stands bare.
@@ -86,8 +95,8 @@ pub fn is_bare(text: &[u8], p: ParamRecord) -> bool
     requires { ⌜ GoodParam (now text) (toParam p) ⌝ }
     ensures { λ r. ⌜ r ≡ isTokenText (valueOf (now (text .entry)) (toParam p)) ⌝ }
 {
-    if p.form == 1 {
+    if p.form == TOKEN {
         return true;
     }
-    means_token(text, p.value.from.0, p.value.to.0)
+    means_token(text, p.value)
 }

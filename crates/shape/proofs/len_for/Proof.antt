@@ -1,7 +1,7 @@
 -- One case of the definition for each branch.
 use borrow.Author.Needs.{needs}
-use Rattle.writer.proofs.shape.len_for.Statement.{statement}
-use Rattle.writer.proofs.shape.len_for.Tie as tie
+use Rattle.shape.proofs.len_for.Statement.{statement}
+use Rattle.shape.proofs.len_for.Tie as tie
 
 returns : tie.Need-returns
 returns c = rw (c .if1 .taken)

@@ -1,6 +1,6 @@
 -- One case of the definition for each branch.
-use Rattle.writer.proofs.shape.escaped_len.Statement.{statement}
-use Rattle.writer.proofs.shape.escaped_len.Tie as tie
+use Rattle.shape.proofs.escaped_len.Statement.{statement}
+use Rattle.shape.proofs.escaped_len.Tie as tie
 
 returns : tie.Need-returns
 returns c = rw (c .if1 .taken)

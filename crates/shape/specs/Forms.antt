@@ -1,9 +1,9 @@
 -- The written forms of records, and of the records that are left of a table.
-use Prim.Native.Nat.{ℕ, _*_, _≤_, _<_}
+use Prim.Native.Nat.{ℕ, _≤_, _<_}
 use mathlib.Core.Bool.{Bool, true, false, cond}
 use mathlib.Core.List.{List, [], _∷_, _++_, map}
-use lib.ListN.{length}
 use Rattle.grammar.specs.Link.{Link, Param}
+use Rattle.grammar.specs.Records.{paramRoom}
 use Rattle.tables.specs.Table.{paramAt}
 use Rattle.tables.specs.Good.{GoodParam}
 use Rattle.tables.specs.Meaning.{paramMeaning, linkMeaning}
@@ -27,8 +27,8 @@ abbrev pub linksForm : List ℕ → Bool → List Link → List ℕ
 linksForm s first [] = []
 linksForm s first (l ∷ ls) = parting first ++ (linkForm s l ++ linksForm s false ls)
 
--- the parameter records from number p up to `end` lie in the slots P, and are good
+-- the parameter records from number p up to `end` have room in the slots P, and are good
 pub record GoodRun (s P : List ℕ) (p end : ℕ) : Type 0 where
   pub ordered : p ≤ end
-  pub slots : 5 * end ≤ length P
+  pub room : end ≤ paramRoom P
   pub good : (j : ℕ) → p ≤ j → j < end → GoodParam s (paramAt P j)

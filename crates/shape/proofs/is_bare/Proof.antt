@@ -2,16 +2,15 @@
 use mathlib.Core.Path.{sym, ap, _∙_}
 use Rattle.tables.specs.Written.{isTokenText}
 use Rattle.values.proofs.Values.{value-meant}
-use Rattle.writer.proofs.Shaping.{token-shape}
-use borrow.Author.Needs.{needs}
-use Rattle.writer.proofs.shape.is_bare.Statement.{statement}
-use Rattle.writer.proofs.shape.is_bare.Tie as tie
+use Rattle.shape.proofs.ValueLengths.{token-stands-bare}
+use Rattle.shape.proofs.is_bare.Statement.{statement}
+use Rattle.shape.proofs.is_bare.Tie as tie
 
 returns : tie.Need-returns
-returns c = token-shape (c .before .before .before .pre) (c .if1 .taken) .bare
+returns c = token-stands-bare (c .before .before .before .pre) (c .if1 .taken) .bare
 
 means-token-requires : tie.Need-means-token-requires
-means-token-requires c κs = (c .before .before .before .pre .value-span .ordered, c .before .before .before .pre .value-span .inside)
+means-token-requires c κs = c .before .before .before .pre .value-span
 
 returns-2 : tie.Need-returns-2
 returns-2 c = c .means-token .ensures ∙ sym (ap isTokenText (value-meant (c .before .before .before .before .pre)))

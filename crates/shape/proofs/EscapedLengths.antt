@@ -1,4 +1,4 @@
--- Octets as they stand in a quoted string.
+-- How many octets an octet and a text take in a quoted string.
 use Prim.Native.Nat.{ℕ, _+_, _≤_}
 use native.Mathlib.Omega.{arith}
 use mathlib.Core.Path.{_≡_, refl}
@@ -11,7 +11,7 @@ use Rattle.octets.proofs.Octets.{both}
 use Rattle.octets.proofs.Laws.{token-plain}
 use Rattle.grammar.proofs.Classes.{token-not-quote, plain-not-backslash}
 use Rattle.tables.specs.Written.{escapeOctet, escape}
-use Rattle.writer.specs.Shape.{escapedLen}
+use Rattle.shape.specs.Shape.{escapedLen}
 
 pub escaped-length : (c : ℕ) (r : List ℕ) → length (escapeOctet c r) ≡ escapedLen c + length r
 escaped-length c r = go (eqb c 34 || eqb c 92) refl

@@ -1,4 +1,4 @@
--- A loop that asks whether the part from a to e means a token: it stands at place k, and has met token octets alone.
+-- A loop that asks whether the part from a to e means a token is at place k, and has met token octets alone.
 use Prim.Native.Nat.{ℕ, suc, _+_, _≤_, _<_}
 use native.Mathlib.Omega.{arith}
 use native.Mathlib.Numerals.{add-one}
@@ -7,13 +7,13 @@ use mathlib.Core.Bool.{Bool, true, false}
 use mathlib.Core.List.{List, [], _∷_}
 use lib.Dec.{ltb}
 use lib.ListN.{length, getD}
-use borrow.Author.Tests.{lt-ltb, ltb-true, ltb-false}
+use borrow.Author.Tests.{ltb-true, ltb-false}
 use Rattle.octets.specs.Sets.{all, isToken}
 use Rattle.tables.specs.Written.{isTokenText}
 use Rattle.values.specs.Rest.{rest, Meant}
 use Rattle.values.proofs.Meant.{none-left, length-step}
 
-pub record Bare (s : List ℕ) (e a k : ℕ) : Type 0 where
+pub record TokensUpTo (s : List ℕ) (e a k : ℕ) : Type 0 where
   pub inside : k ≤ e
   pub forward : a ≤ k
   pub tokens : all isToken (rest s e a) ≡ all isToken (rest s e k)
@@ -28,7 +28,7 @@ not-token : (v : List ℕ) → all isToken v ≡ false → false ≡ isTokenText
 not-token [] e = refl
 not-token (c ∷ v) e = sym e
 
-module _ {s : List ℕ} {e a k : ℕ} (w : Bare s e a k) where
+module _ {s : List ℕ} {e a k : ℕ} (w : TokensUpTo s e a k) where
   -- nothing is left
   ended : rest s e k ≡ [] → ltb a k ≡ isTokenText (rest s e a)
   ended h = go (ltb a k) refl
@@ -40,18 +40,18 @@ module _ {s : List ℕ} {e a k : ℕ} (w : Bare s e a k) where
           let none : rest s e a ≡ [] = rw same h in
           rw none
 
-  pub bare-end : e ≤ k → ltb a k ≡ isTokenText (rest s e a)
-  bare-end l = ended (none-left s l)
+  pub tokens-end : e ≤ k → ltb a k ≡ isTokenText (rest s e a)
+  tokens-end l = ended (none-left s l)
 
   module _ {p : ℕ} (m : Meant s e k p) where
-    pub bare-none : e ≤ p → ltb a k ≡ isTokenText (rest s e a)
-    bare-none l = ended (m .none l)
+    pub tokens-none : e ≤ p → ltb a k ≡ isTokenText (rest s e a)
+    tokens-none l = ended (m .none l)
 
-    pub bare-not : p < e → isToken (getD s p 0) ≡ false → false ≡ isTokenText (rest s e a)
-    bare-not l t = not-token (rest s e a) (w .tokens ∙ ap (all isToken) (m .octet l) ∙ rw t)
+    pub tokens-broken : p < e → isToken (getD s p 0) ≡ false → false ≡ isTokenText (rest s e a)
+    tokens-broken l t = not-token (rest s e a) (w .tokens ∙ ap (all isToken) (m .octet l) ∙ rw t)
 
-    pub bare-more : p < e → isToken (getD s p 0) ≡ true → Bare s e a (p + 1)
-    bare-more l t =
+    pub tokens-more : p < e → isToken (getD s p 0) ≡ true → TokensUpTo s e a (p + 1)
+    tokens-more l t =
         rw (add-one p)
         (record {
           inside = l;
