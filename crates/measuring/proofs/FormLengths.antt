@@ -10,15 +10,15 @@ use lib.Seq.{slice, length-slice}
 use Rattle.octets.specs.Fold.{fold}
 use Rattle.grammar.specs.Link.{Param}
 use Rattle.grammar.specs.Kept.{nameOf}
-use Rattle.kinds.specs.declared.LinkRecord.{LinkRecord}
-use Rattle.table_check.specs.Parts.{linkOf}
+use Rattle.records.specs.Slots.{toLink}
+use Rattle.records.specs.declared.LinkRecord.{LinkRecord}
 use Rattle.tables.specs.Table.{paramsFrom}
 use Rattle.tables.specs.Good.{InText, GoodParam}
 use Rattle.tables.specs.Meaning.{unescapeFrom, unescape, valueOf}
 use Rattle.tables.specs.Written.{isTokenText, escape, writtenValue}
 use Rattle.values.proofs.Values.{value-meant}
-use Rattle.writer.specs.Forms.{paramForm, paramsForm, linkForm}
-use Rattle.writer.proofs.Escaping.{escaped-length, escaped-bounds}
+use Rattle.shape.specs.Forms.{paramForm, paramsForm, linkForm}
+use Rattle.shape.proofs.EscapedLengths.{escaped-length, escaped-bounds}
 
 -- ---- a value's written form has at most two octets for each of the value's, and the quotes
 
@@ -67,7 +67,7 @@ module _ {s : List ℕ} {p : Param} (g : GoodParam s p) where
 
 -- a link's form: the target, `<` and `>`, and the parameters
 pub link-length : (s P : List ℕ) (r : LinkRecord) → InText s (r .target .from .0) (r .target .to .0)
-    → length (linkForm s (linkOf P r))
+    → length (linkForm s (toLink P r))
     ≡ r .target .to .0 - r .target .from .0 + 2 + length (paramsForm s (paramsFrom P (r .first .0) (r .count)))
 link-length s P r h =
     omega (

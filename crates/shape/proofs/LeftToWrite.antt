@@ -14,12 +14,9 @@ use Rattle.outcomes.specs.Write.{writtenForm}
 use Rattle.tables.specs.Table.{Table, paramAt, paramsFrom, linkAt, linksFrom, linksOf}
 use Rattle.tables.specs.Meaning.{meanings}
 use Rattle.tables.specs.Written.{written}
-use Rattle.shape.specs.Forms.{paramForm, paramsForm, linkForm, parting, linksForm}
+use Rattle.shape.specs.Forms.{paramForm, paramsForm, paramsLeft, linkForm, parting, linksForm, linksLeft}
 
 -- ---- parameters from number p up to `end`
-
-abbrev pub paramsLeft : List ℕ → List ℕ → ℕ → ℕ → List ℕ
-paramsLeft s P end p = paramsForm s (paramsFrom P p (end - p))
 
 module _ (s P : List ℕ) {end p : ℕ} where
   pub params-end : end ≤ p → paramsLeft s P end p ≡ []
@@ -34,9 +31,6 @@ pub whole-run : (s P : List ℕ) (first count : ℕ) → paramsForm s (paramsFro
 whole-run s P first count = let e : first + count - first ≡ count = omega arith in rw e
 
 -- ---- links from number i up to n
-
-abbrev pub linksLeft : List ℕ → List ℕ → List ℕ → ℕ → ℕ → List ℕ
-linksLeft s L P n i = linksForm s (eqb i 0) (linksFrom L P i (n - i))
 
 link-of : {L : List ℕ} (P : List ℕ) {i : ℕ} {r : LinkRecord} → IsLink L i r → linkAt L P i ≡ toLink P r
 link-of P is = rw (is .from, is .to, is .first, is .count)
