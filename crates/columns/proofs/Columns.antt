@@ -8,7 +8,7 @@ use lib.ListN.{length, take, getD, length-append}
 use lib.Seq.{take-suc, take-length}
 use Rattle.columns.specs.Decimal.{decimal}
 use Rattle.columns.specs.Line.{tab, lf, columns, line}
-use Rattle.columns.specs.Holds.{octetsOf, Grown}
+use Rattle.columns.specs.LineHolds.{octetsOf, Grown}
 use Rattle.columns.specs.declared.Line.{Line}
 
 pub grown-then : {l m n : Line} {s t : List ℕ} → Grown l s m → Grown m t n → Grown l (s ++ t) n

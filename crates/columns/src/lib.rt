@@ -3,7 +3,7 @@ ghost use Prim.Native.Nat.{_+_, _*_, _≤_};
 ghost use mathlib.Core.List.{_∷_};
 ghost use lib.ListN.{length};
 ghost use Rattle.columns.specs.Decimal.{decimal, DecimalHolds};
-ghost use Rattle.columns.specs.Holds.{Grown, Holds};
+ghost use Rattle.columns.specs.LineHolds.{Grown, LineHolds};
 ghost use Rattle.columns.specs.Line.{tab, line};
 
 // Room for a label of 7 octets, 7 numbers of 20 digits, each behind its HTAB, and LF.
@@ -45,7 +45,7 @@ impl Line {
 // A label, a number, and the rest of the numbers.
 pub fn line_of(label: &[u8], first: usize, rest: &[usize]) -> Line
     requires { ⌜ length (now label) + 21 * (1 + length (now rest)) + 1 ≤ 160 ⌝ }
-    ensures { λ r. ⌜ Holds r (line (now (label .entry)) (first ∷ now (rest .entry))) ⌝ }
+    ensures { λ r. ⌜ LineHolds r (line (now (label .entry)) (first ∷ now (rest .entry))) ⌝ }
 {
     let empty = Line {
         octets: [0u8; 160],

@@ -6,7 +6,7 @@ use mathlib.Core.Path.{_≡_, refl}
 use borrow.Author.Needs.{needs}
 use lib.ListN.{length, take, length-take}
 use Rattle.columns.specs.Line.{columns}
-use Rattle.columns.specs.Holds.{octetsOf}
+use Rattle.columns.specs.LineHolds.{octetsOf}
 use Rattle.columns.proofs.Columns.{column-first, column-more, line-whole}
 use Rattle.columns.proofs.line_of.Statement.{statement}
 use Rattle.columns.proofs.line_of.Tie as tie

@@ -5,7 +5,7 @@ use mathlib.Core.List.{_++_}
 use mathlib.Core.Path.{_≡_}
 use borrow.Author.Needs.{needs}
 use lib.ListN.{length, take, length-set}
-use Rattle.columns.specs.Holds.{octetsOf}
+use Rattle.columns.specs.LineHolds.{octetsOf}
 use Rattle.columns.proofs.Growing.{grow-none, grow-more, grow-all}
 use Rattle.columns.proofs.Line.with_octets.Statement.{statement}
 use Rattle.columns.proofs.Line.with_octets.Tie as tie
