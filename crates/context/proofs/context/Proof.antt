@@ -1,4 +1,5 @@
 -- The part of the text is the one that the answer names, and a refusal is no octet of the base.
+use native.Mathlib.Omega.{arith}
 use mathlib.Core.Path.{refl, sym}
 use lib.ListN.{length}
 use lib.Seq.{take-length}
@@ -16,13 +17,16 @@ enum-known-answer : tie.Need-enum-known-answer
 enum-known-answer c = search needs
 
 sub-result : tie.Need-sub-result
-sub-result c = within (c .before .before .before .context-of .ensures) (c .before .answer .given .1) .ordered
+sub-result c =
+    let part = within (c .before .before .before .context-of .ensures) (c .before .answer .given .1) in omega arith
 
 part-result-start : tie.Need-part-result-start
-part-result-start c = within (c .before .before .before .context-of .ensures) (c .before .answer .given .1) .ordered
+part-result-start c =
+    let part = within (c .before .before .before .context-of .ensures) (c .before .answer .given .1) in omega arith
 
 part-result-end : tie.Need-part-result-end
-part-result-end c = within (c .before .before .before .context-of .ensures) (c .before .answer .given .1) .inside
+part-result-end c =
+    let part = within (c .before .before .before .context-of .ensures) (c .before .answer .given .1) in omega arith
 
 enum-told : tie.Need-enum-told
 enum-told c = search needs
