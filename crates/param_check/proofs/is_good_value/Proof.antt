@@ -1,8 +1,8 @@
 -- Each form asks for its own rule, and no other form is good.
 use borrow.Author.Needs.{needs}
-use Rattle.table_check.proofs.Values.{of-none, of-token, of-quoted, no-form}
-use Rattle.table_check.proofs.params.is_good_value.Statement.{statement}
-use Rattle.table_check.proofs.params.is_good_value.Tie as tie
+use Rattle.param_check.proofs.Values.{of-none, of-token, of-quoted, no-form}
+use Rattle.param_check.proofs.is_good_value.Statement.{statement}
+use Rattle.param_check.proofs.is_good_value.Tie as tie
 
 is-token-part-requires : tie.Need-is-token-part-requires
 is-token-part-requires c κs = search needs

@@ -2,8 +2,8 @@
 use mathlib.Core.Logic.{⊎-elim}
 use borrow.Author.Needs.{needs}
 use Rattle.part_check.proofs.Deciding.{also, not-so}
-use Rattle.table_check.proofs.params.is_good_param.Statement.{statement}
-use Rattle.table_check.proofs.params.is_good_param.Tie as tie
+use Rattle.param_check.proofs.is_good_param.Statement.{statement}
+use Rattle.param_check.proofs.is_good_param.Tie as tie
 
 is-span-requires : tie.Need-is-span-requires
 is-span-requires c κs = search needs

@@ -16,7 +16,7 @@ use Rattle.names.specs.Remembers.{Remembers, noneSeen, hasCode, withCode}
 use Rattle.names.specs.declared.Seen.{Seen}
 use Rattle.names.proofs.Seeing.{nothing-seen, has-told, seen-with}
 use Rattle.part_check.specs.Decides.{Decides}
-use Rattle.table_check.specs.Params.{GoodParams}
+use Rattle.param_check.specs.Params.{GoodParams}
 use Rattle.part_check.proofs.Deciding.{is-so, not-so}
 
 -- the parameter p repeats one of the six names

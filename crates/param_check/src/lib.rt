@@ -6,7 +6,7 @@ ghost use Rattle.tables.specs.Table.{paramsFrom};
 ghost use Rattle.tables.specs.Good.{InText, GoodValue, GoodParam};
 ghost use Rattle.records.specs.Slots.{toParam};
 ghost use Rattle.part_check.specs.Decides.{Decides};
-ghost use Rattle.table_check.specs.Params.{GoodParams};
+ghost use Rattle.param_check.specs.Params.{GoodParams};
 use kinds::ParamNumber;
 use names::Seen;
 use part_check::PartKind;

@@ -4,9 +4,9 @@ use native.Mathlib.Omega.{arith}
 use borrow.Author.Needs.{needs}
 use borrow.Author.Tests.{not-true, not-false}
 use Rattle.grammar.specs.Kept.{nameOf}
-use Rattle.table_check.proofs.OfParams.{Checked, begin, bad-param, repeated, passed, through}
-use Rattle.table_check.proofs.params.are_good_params.Statement.{statement}
-use Rattle.table_check.proofs.params.are_good_params.Tie as tie
+use Rattle.param_check.proofs.OfParams.{Checked, begin, bad-param, repeated, passed, through}
+use Rattle.param_check.proofs.are_good_params.Statement.{statement}
+use Rattle.param_check.proofs.are_good_params.Tie as tie
 
 abbrev Inv-loop : tie.InvT-loop
 Inv-loop s slots first count seen₀ k₀ seen k = Checked s slots (first .0) count seen k
