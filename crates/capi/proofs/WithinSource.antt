@@ -15,8 +15,9 @@ use Rattle.tables.specs.Relation.{named}
 use Rattle.outcomes.specs.Usable.{long-text, not-good}
 use Rattle.outcomes.specs.Context.{ContextOut, Context, refused, no-such-link, anchored, unanchored}
 use Rattle.values.proofs.InGood.{good-link}
-use Rattle.capi.specs.Part.{contextNumbers, sourceOctets, IsContext}
-use Rattle.capi.specs.declared.context.CapstanContextAnswer.{CapstanContextAnswer}
+use Rattle.answers.specs.Context.{contextNumbers}
+use Rattle.answers.specs.declared.context.ContextNumbers.{ContextNumbers}
+use Rattle.capi.specs.Part.{sourceOctets, IsContext}
 
 -- what holds of each parameter holds of the one that is named n
 module _ (Q : Param → Type 0) (s n : List ℕ) where
@@ -38,6 +39,6 @@ within t base i (anchored {p} u h e) =
     of-named (GoodParam (t .text)) (t .text) (octets "anchor") p (good-link (u .good) h .params) e .value-span
 within t base i (unanchored u h e) = record { ordered = omega arith; inside = omega arith }
 
-pub is-context : {t : Table} {base : List ℕ} {i : ℕ} {o : ContextOut} {r : CapstanContextAnswer} → Context t base i o
+pub is-context : {t : Table} {base : List ℕ} {i : ℕ} {o : ContextOut} {r : ContextNumbers} → Context t base i o
     → r ≡ contextNumbers o → IsContext t base i r
 is-context {t} {base} {i} {o} c e = record { out = o; outcome = c; numbers = e; within = rw e (within t base i c) }
