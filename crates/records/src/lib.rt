@@ -30,6 +30,35 @@ pub struct ParamRecord {
     pub form: usize,
 }
 
+impl LinkRecord {
+    // Its numbers, as they stand in slots.
+    pub fn numbers(self) -> [usize; LINK_SLOTS]
+        ensures { λ r. ⌜ r ≡ linkNumbers self ⌝ }
+    {
+        [
+            self.target.from.0,
+            self.target.to.0,
+            self.first.0,
+            self.count,
+        ]
+    }
+}
+
+impl ParamRecord {
+    // Its numbers, as they stand in slots.
+    pub fn numbers(self) -> [usize; PARAM_SLOTS]
+        ensures { λ r. ⌜ r ≡ paramNumbers self ⌝ }
+    {
+        [
+            self.name.from.0,
+            self.name.to.0,
+            self.value.from.0,
+            self.value.to.0,
+            self.form,
+        ]
+    }
+}
+
 // For how many link records the slots have room.
 pub fn link_room(slots: &[usize]) -> usize
     ensures { λ r. ⌜ r ≡ linkRoom (now (slots .entry)) ⌝ }

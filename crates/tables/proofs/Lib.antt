@@ -7,3 +7,4 @@ pub mod ReadBack
 pub mod Filled
 pub mod FromReading
 pub mod Decide
+pub mod InGood

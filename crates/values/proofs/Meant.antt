@@ -3,7 +3,7 @@ use Prim.Native.Nat.{ℕ, suc, _+_, _≤_, _<_}
 use native.Mathlib.Omega.{arith}
 use native.Mathlib.Numerals.{add-one}
 use mathlib.Core.Path.{_≡_, ap}
-use mathlib.Core.List.{List, []}
+use mathlib.Core.List.{List, [], _∷_}
 use lib.ListN.{length, getD, take, length-take, drop-of-length-le}
 use lib.Seq.{slice, slice-empty, slice-cons}
 use borrow.Author.Tests.{ne-eqb}
@@ -40,8 +40,11 @@ module _ {s : List ℕ} {e k : ℕ} (h : k < e) (l : e ≤ length s) where
 
 -- one octet less is left behind the octet meant, and with none nothing is left
 module _ {s : List ℕ} {e k p : ℕ} (m : Meant s e k p) where
+  pub octet-step : p < e → rest s e k ≡ getD s p 0 ∷ rest s e (p + 1)
+  octet-step l = rw (add-one p) (m .octet l)
+
   pub length-step : p < e → length (rest s e k) ≡ suc (length (rest s e (p + 1)))
-  length-step l = rw (add-one p) (ap length (m .octet l))
+  length-step l = ap length (octet-step l)
 
   pub length-none : e ≤ p → length (rest s e k) ≡ 0
   length-none l = ap length (m .none l)

@@ -1,3 +1,2 @@
 -- What the crate `values` means by its words.
 pub mod Rest
-pub mod Runs

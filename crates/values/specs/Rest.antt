@@ -1,10 +1,9 @@
 -- What is left of a value's meaning from a place on.
-use Prim.Native.Nat.{ℕ, suc, _+_, _≤_, _<_}
+use Prim.Native.Nat.{ℕ, suc, _≤_, _<_}
 use mathlib.Core.Path.{_≡_}
 use mathlib.Core.List.{List, [], _∷_}
-use lib.ListN.{length, getD}
+use lib.ListN.{getD}
 use lib.Seq.{slice}
-use Rattle.kinds.specs.Slots.{over}
 use Rattle.tables.specs.Meaning.{unescape}
 
 -- the meaning of the part of s from place k to place e
@@ -17,8 +16,3 @@ pub record Meant (s : List ℕ) (e k p : ℕ) : Type 0 where
   pub to : p ≤ suc k
   pub octet : p < e → rest s e k ≡ getD s p 0 ∷ rest s e (suc p)
   pub none : e ≤ p → rest s e k ≡ []
-
--- what the part from a to e means was written over `old` from slot `at` on, up to slot `to`
-pub record Wrote (s : List ℕ) (e a : ℕ) (old new : List ℕ) (at to : ℕ) : Type 0 where
-  pub buffer : new ≡ over old at (rest s e a)
-  pub place : to ≡ at + length (rest s e a)

@@ -1,0 +1,35 @@
+-- The lines that a listing is made of: columns parted by HTAB, and LF at the end.
+use Prim.Native.Nat.{ℕ}
+use mathlib.Core.List.{List, [], _∷_, _++_}
+use Rattle.octets.specs.Text.{octets}
+use Rattle.lines.specs.Decimal.{decimal}
+
+abbrev pub tab : ℕ
+tab = 9
+
+abbrev pub lf : ℕ
+lf = 10
+
+-- one more column for each number
+abbrev pub columns : List ℕ → List ℕ
+columns [] = []
+columns (n ∷ ns) = tab ∷ decimal n ++ columns ns
+
+unfoldable pub line : List ℕ → List ℕ → List ℕ
+line label numbers = label ++ columns numbers ++ (lf ∷ [])
+
+-- how many links there are, and how many parameters
+abbrev pub countsLine : ℕ → ℕ → List ℕ
+countsLine links params = line (octets "links") (links ∷ params ∷ [])
+
+-- a link's number and its record
+abbrev pub linkLine : ℕ → List ℕ → List ℕ
+linkLine number fields = line (octets "link") (number ∷ fields)
+
+-- a parameter's number and its record
+abbrev pub paramLine : ℕ → List ℕ → List ℕ
+paramLine number fields = line (octets "param") (number ∷ fields)
+
+-- why a header is refused, and where
+abbrev pub refusalLine : ℕ → ℕ → List ℕ
+refusalLine number place = line (octets "refused") (number ∷ place ∷ [])
