@@ -1,22 +1,8 @@
--- The lines that a listing is made of: columns parted by HTAB, and LF at the end.
+-- The lines that a listing is made of. A record is its numbers in order.
 use Prim.Native.Nat.{ℕ}
-use mathlib.Core.List.{List, [], _∷_, _++_}
+use mathlib.Core.List.{List, [], _∷_}
 use Rattle.octets.specs.Text.{octets}
-use Rattle.lines.specs.Decimal.{decimal}
-
-abbrev pub tab : ℕ
-tab = 9
-
-abbrev pub lf : ℕ
-lf = 10
-
--- one more column for each number
-abbrev pub columns : List ℕ → List ℕ
-columns [] = []
-columns (n ∷ ns) = tab ∷ decimal n ++ columns ns
-
-unfoldable pub line : List ℕ → List ℕ → List ℕ
-line label numbers = label ++ columns numbers ++ (lf ∷ [])
+use Rattle.columns.specs.Line.{line}
 
 -- how many links there are, and how many parameters
 abbrev pub countsLine : ℕ → ℕ → List ℕ

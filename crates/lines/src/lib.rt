@@ -1,34 +1,38 @@
-// The lines of a listing, each as a value, and the input without the LF that ends it. Nothing is written here.
-ghost use Rattle.lines.specs.Decimal.{DecimalHolds};
+// The lines of a listing, each as a value, and the input without the LF that ends it. Nothing is read or written here.
+ghost use Rattle.columns.specs.LineHolds.{LineHolds};
+ghost use Rattle.records.specs.Slots.{linkNumbers, paramNumbers};
 ghost use Rattle.lines.specs.FinalLf.{IsTrimmed};
-ghost use Rattle.lines.specs.Holds.{Holds};
 ghost use Rattle.lines.specs.Line.{countsLine, linkLine, paramLine, refusalLine};
-use crate::line::line_of;
+use columns::Line;
+use columns::line_of;
+use kinds::Counts;
+use kinds::LinkNumber;
+use kinds::ParamNumber;
+use records::LinkRecord;
+use records::ParamRecord;
 
-mod line;
-
-pub use line::Line;
-
-pub fn counts_line(links: usize, params: usize) -> Line
-    ensures { λ r. ⌜ Holds r (countsLine links params) ⌝ }
+pub fn counts_line(counts: Counts) -> Line
+    ensures { λ r. ⌜ LineHolds r (countsLine (counts .links) (counts .params)) ⌝ }
 {
-    line_of(b"links", links, &[params])
+    line_of(b"links", counts.links, &[counts.params])
 }
 
-pub fn link_line(number: usize, fields: [usize; 4]) -> Line
-    ensures { λ r. ⌜ Holds r (linkLine number fields) ⌝ }
+pub fn link_line(number: LinkNumber, link: LinkRecord) -> Line
+    ensures { λ r. ⌜ LineHolds r (linkLine (number .0) (linkNumbers link)) ⌝ }
 {
-    line_of(b"link", number, &fields)
+    let fields = link.numbers();
+    line_of(b"link", number.0, &fields)
 }
 
-pub fn param_line(number: usize, fields: [usize; 5]) -> Line
-    ensures { λ r. ⌜ Holds r (paramLine number fields) ⌝ }
+pub fn param_line(number: ParamNumber, param: ParamRecord) -> Line
+    ensures { λ r. ⌜ LineHolds r (paramLine (number .0) (paramNumbers param)) ⌝ }
 {
-    line_of(b"param", number, &fields)
+    let fields = param.numbers();
+    line_of(b"param", number.0, &fields)
 }
 
 pub fn refusal_line(number: usize, place: usize) -> Line
-    ensures { λ r. ⌜ Holds r (refusalLine number place) ⌝ }
+    ensures { λ r. ⌜ LineHolds r (refusalLine number place) ⌝ }
 {
     line_of(b"refused", number, &[place])
 }
@@ -43,8 +47,3 @@ pub fn without_final_lf(s: &[u8]) -> &[u8]
     }
     s
 }
-
-// The digits read back as the number, with no zero in front.
-pub fn decimal_holds()
-    ensures { λ _. ⌜ DecimalHolds ⌝ }
-{}

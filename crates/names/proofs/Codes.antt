@@ -8,8 +8,9 @@ use mathlib.Core.List.{List, [], _∷_}
 use lib.Dec.{eqb}
 use lib.ListN.{length, getD}
 use borrow.Author.Tests.{eqb-true, eqb-false, ne-eqb}
+use Rattle.octets.specs.Text.{octets}
 use Rattle.octets.specs.Fold.{same}
-use Rattle.octets.proofs.Laws.{same-sound}
+use Rattle.octets.proofs.Laws.{same-sound, same-refl, same-false}
 use Rattle.grammar.specs.Kept.{among, onceNames, isOnce, codeFrom, codeOf}
 
 -- of the names ms, numbered from 1 + k on
@@ -47,11 +48,11 @@ pub once-code : (n : List ℕ) → isOnce n ≡ not (eqb (codeOf n) 0)
 unfolding isOnce codeOf
 once-code n = among-code n onceNames 0
 
-pub code-bound : (n : List ℕ) → codeOf n ≤ 6
+pub code-bound : (n : List ℕ) → codeOf n ≤ length onceNames
 unfolding codeOf
 code-bound n = go (eqb (codeOf n) 0) refl
   where
-    go : (b : Bool) → eqb (codeOf n) 0 ≡ b → codeOf n ≤ 6
+    go : (b : Bool) → eqb (codeOf n) 0 ≡ b → codeOf n ≤ length onceNames
     go true e = omega (arith, eqb-true (codeOf n) 0 e)
     go false e = found n onceNames 0 (eqb-false (codeOf n) 0 e) .within
 
@@ -60,3 +61,19 @@ unfolding codeOf
 same-code n m e h =
     found n onceNames 0 h .named ∙ ap (λ (c : ℕ). getD onceNames (c - 1) []) e
     ∙ sym (found m onceNames 0 (λ q. h (e ∙ q)) .named)
+
+-- names of one code that is not 0 are the same, and names of two codes are not
+pub code-same : (m n : List ℕ) → (codeOf m ≡ 0 → ⊥) → codeOf m ≡ codeOf n → same m n ≡ true
+code-same m n h e = rw (same-code m n e h) (same-refl n)
+
+pub code-other : (m n : List ℕ) → (codeOf m ≡ codeOf n → ⊥) → same m n ≡ false
+code-other m n h = same-false m n (λ q. h (ap codeOf q))
+
+-- the codes of the names that are asked for
+pub rel-code : codeOf (octets "rel") ≡ 1
+unfolding codeOf
+rel-code = refl
+
+pub anchor-code : codeOf (octets "anchor") ≡ 2
+unfolding codeOf
+anchor-code = refl

@@ -1,18 +1,17 @@
 -- What has been seen tells which of the six names stood earlier.
 use Prim.Native.Nat.{ℕ, zero, suc, _≤_, _<_}
 use native.Mathlib.Omega.{arith}
-use mathlib.Core.Path.{_≡_, refl, sym, ap, subst, _∙_}
-use mathlib.Core.Bool.{Bool, true, false, _&&_, _||_, and-false, or-false, or-comm, false≢true}
+use mathlib.Core.Path.{_≡_, refl, sym, ap, _∙_}
+use mathlib.Core.Bool.{Bool, true, false, _&&_, _||_, and-false, or-false, or-comm}
 use mathlib.Core.List.{List, [], _∷_}
 use lib.Dec.{eqb, ltb}
-use borrow.Author.Tests.{eq-eqb, ne-eqb, ltb-true}
+use borrow.Author.Tests.{eqb-true, eqb-false, ne-eqb, ltb-true}
 use Rattle.octets.specs.Fold.{same}
 use Rattle.octets.proofs.Octets.{every, every-at, agree, agreed}
-use Rattle.octets.proofs.Laws.{same-sound, same-refl}
 use Rattle.grammar.specs.Kept.{among, isOnce, codeOf}
-use Rattle.names.specs.Holds.{noneSeen, hasCode, withCode, Holds}
+use Rattle.names.specs.Remembers.{noneSeen, hasCode, withCode, Remembers}
 use Rattle.names.specs.declared.Seen.{Seen}
-use Rattle.names.proofs.Codes.{once-code, code-bound, same-code}
+use Rattle.names.proofs.Codes.{once-code, code-bound, code-same, code-other}
 
 no-code : (x : Seen) → hasCode x 0 ≡ false
 unfolding hasCode
@@ -46,29 +45,26 @@ module _ (x : Seen) (l : x .marks < 128) (c : ℕ) (h : c ≤ 6) where
       marked n d j =
           agree (hasCode (withCode (record { marks = n }) d) (suc j)) (hasCode (record { marks = n }) (suc j) || eqb d (suc j))
 
--- the code of m is that of one of the six names, n, just if m is n
-same-told : (m n : List ℕ) → (codeOf n ≡ 0 → ⊥) → eqb (codeOf m) (codeOf n) ≡ same n m
-same-told m n o = go (same n m) refl
+-- the code of n is that of one of the six names, m, just if n is m
+same-told : (m n : List ℕ) → (codeOf m ≡ 0 → ⊥) → eqb (codeOf n) (codeOf m) ≡ same m n
+same-told m n o = go (eqb (codeOf n) (codeOf m)) refl
   where
-    go : (b : Bool) → same n m ≡ b → eqb (codeOf m) (codeOf n) ≡ same n m
-    go true e = rw e (eq-eqb (codeOf m) (codeOf n) (ap codeOf (sym (same-sound n m e))))
-    go false e =
-        rw e
-        (ne-eqb (codeOf m) (codeOf n)
-        (λ q. false≢true (sym e ∙ subst (λ (y : List ℕ). same n y ≡ true) (same-code n m (sym q) o) (same-refl n))))
+    go : (b : Bool) → eqb (codeOf n) (codeOf m) ≡ b → eqb (codeOf n) (codeOf m) ≡ same m n
+    go true e = rw (e, code-same m n o (sym (eqb-true (codeOf n) (codeOf m) e)))
+    go false e = rw (e, code-other m n (λ q. eqb-false (codeOf n) (codeOf m) e (sym q)))
 
 -- at the start of a link
-pub nothing-seen : {r : Seen} → r ≡ noneSeen → Holds r []
+pub nothing-seen : {r : Seen} → r ≡ noneSeen → Remembers r []
 unfolding noneSeen
 nothing-seen q = record { fits = rw q (omega arith); tells = λ n. rw (q, none-has (codeOf n) (code-bound n), and-false) }
 
-module _ {x : Seen} {earlier : List (List ℕ)} (h : Holds x earlier) (n : List ℕ) {c : ℕ} (q : c ≡ codeOf n) where
+module _ {x : Seen} {earlier : List (List ℕ)} (h : Remembers x earlier) (n : List ℕ) {c : ℕ} (q : c ≡ codeOf n) where
   -- the answer to a name's code is the answer to the name
   pub has-told : {r : Bool} → r ≡ hasCode x c → r ≡ (isOnce n && among earlier n)
   has-told e = e ∙ ap (hasCode x) q ∙ h .tells n
 
   -- behind one more name
-  pub seen-with : {r : Seen} → r ≡ withCode x c → Holds r (n ∷ earlier)
+  pub seen-with : {r : Seen} → r ≡ withCode x c → Remembers r (n ∷ earlier)
   seen-with e =
       record {
         fits = rw (e, q) (with-fits x (h .fits) (codeOf n) (code-bound n));
@@ -80,5 +76,5 @@ module _ {x : Seen} {earlier : List (List ℕ)} (h : Holds x earlier) (n : List 
       go m zero z = rw (once-code m, z) (no-code (withCode x (codeOf n)))
       go m (suc k) z =
           let six : isOnce m ≡ true = rw (once-code m, z, ne-eqb (suc k) 0 (λ y. omega arith)) in
-          rw (z, has-with x (h .fits) (codeOf n) (code-bound n) k (omega (arith, code-bound m)), ← z, h .tells m, same-told n m (λ y. omega arith), six)
+          rw (z, has-with x (h .fits) (codeOf n) (code-bound n) k (omega (arith, code-bound m)), ← z, h .tells m, same-told m n (λ y. omega arith), six)
           (or-comm (among earlier m) (same m n))

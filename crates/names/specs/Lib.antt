@@ -1,2 +1,2 @@
 -- What the crate `names` means by its words.
-pub mod Holds
+pub mod Remembers

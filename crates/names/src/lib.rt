@@ -1,12 +1,17 @@
 // The six names of which a link keeps only the first parameter: a number for each, and a record of which have been seen.
 ghost use mathlib.Core.Path.{_≡_};
-ghost use Prim.Native.Nat.{_≤_};
-ghost use lib.ListN.{length};
 ghost use lib.Seq.{slice};
 ghost use Rattle.octets.specs.Fold.{folded};
 ghost use Rattle.grammar.specs.Kept.{codeOf};
-ghost use Rattle.names.specs.Holds.{noneSeen, hasCode, withCode};
+ghost use Rattle.tables.specs.Good.{InText};
+ghost use Rattle.names.specs.Remembers.{noneSeen, hasCode, withCode};
 use folding::same_folded;
+use kinds::Span;
+
+// The codes of the names that are asked for: `rel` and `anchor`.
+pub const REL: u8 = 1;
+
+pub const ANCHOR: u8 = 2;
 
 // Which of the six names stood earlier in a link: the bit of a name's code is set.
 pub struct Seen {
@@ -39,14 +44,14 @@ impl Seen {
 
 // The code of the name n, written in any case: 1 to 6, or 0 if it is none of the six. The lengths are compared first, so that most
 // names cost no more than that.
-pub fn code_of(n: &[u8]) -> u8
+fn code_of(n: &[u8]) -> u8
     ensures { λ r. ⌜ r ≡ codeOf (folded (now (n .entry))) ⌝ }
 {
     if same_folded(n, b"rel") {
-        return 1;
+        return REL;
     }
     if same_folded(n, b"anchor") {
-        return 2;
+        return ANCHOR;
     }
     if same_folded(n, b"media") {
         return 3;
@@ -63,10 +68,12 @@ pub fn code_of(n: &[u8]) -> u8
     0
 }
 
-// The code of the name from a to e.
-pub fn code(s: &[u8], a: usize, e: usize) -> u8
-    requires { ⌜ (a ≤ e) × (e ≤ length (now s)) ⌝ }
-    ensures { λ r. ⌜ r ≡ codeOf (folded (slice a e (now (s .entry)))) ⌝ }
+// The code of the name that stands there.
+pub fn code(s: &[u8], name: Span) -> u8
+    requires { ⌜ InText (now s) (name .from .0) (name .to .0) ⌝ }
+    ensures { λ r. ⌜ r ≡ codeOf (folded (slice (name .from .0) (name .to .0) (now (s .entry)))) ⌝ }
 {
-    code_of(&s[a..e])
+    let from = name.from.0;
+    let to = name.to.0;
+    code_of(&s[from..to])
 }

@@ -1,9 +1,7 @@
--- Laws of where the machine stands.
-pub mod Standing
-pub mod Targets
-pub mod Insides
-pub mod Params
-pub mod Links
-pub mod Headers
-pub mod Ends
-pub mod Knowing
+-- Laws of links and headers that are scanned.
+pub mod KeptMore
+pub mod ReadyBehindParams
+pub mod ParamsSoFar
+pub mod ReadyBehindLink
+pub mod BetweenLinks
+pub mod LinksSoFar

@@ -1,6 +1,2 @@
--- What the functions of the crate `scanner` promise one another.
-pub mod Stands
-pub mod Parsed
-pub mod Scanned
+-- What the functions of the crate `scanner` promise.
 pub mod Linked
-pub mod Known

@@ -9,17 +9,18 @@ use Rattle.grammar.specs.Link.{Link, Param}
 use Rattle.grammar.specs.Grammar.{rfc8288, At, Target}
 use Rattle.grammar.specs.Kept.{keepAfter, Reading}
 use Rattle.grammar.specs.Records.{countParams}
+use Rattle.grammar.specs.Place.{MalformedAt}
 use Rattle.grammar.specs.Machine.{target, opened}
 use Rattle.kinds.specs.declared.Place.{Place}
+use Rattle.kinds.specs.declared.Counts.{Counts}
 use Rattle.cursor.specs.Passed.{Passed}
 use Rattle.cursor.specs.declared.Cursor.{Cursor}
-use Rattle.scanner.specs.declared.LinkScan.{LinkScan}
-use Rattle.scanner.specs.declared.LinkScan.the-variants.{NoLink, Whole}
+use Rattle.scan_parts.specs.Stands.{Stands, Ready}
+use Rattle.scan_parts.specs.Parsed.{Parsed}
+use Rattle.scanner.specs.declared.link.LinkScan.{LinkScan}
+use Rattle.scanner.specs.declared.link.LinkScan.the-variants.{NoLink, Whole}
 use Rattle.scanner.specs.declared.HeaderScan.{HeaderScan}
 use Rattle.scanner.specs.declared.HeaderScan.the-variants.{Malformed, Counted}
-use Rattle.grammar.specs.Place.{MalformedAt}
-use Rattle.scanner.specs.Stands.{Stands, Ready}
-use Rattle.scanner.specs.Parsed.{Parsed}
 
 -- parameters one behind the other from place a up to place i, the last first
 pub data Chain (s : List ℕ) (a : ℕ) : List Param → ℕ → Type 0 where
@@ -52,6 +53,13 @@ pub data LinkScanned (s : List ℕ) (a : ℕ) : LinkScan → Type 0 where
   no-link : {p : Place} → ((ls : List Link) → Stands s (target ls a) a → MalformedAt rfc8288 s (p .0)) → LinkScanned s a (NoLink p)
   a-link : {c : Cursor} {n : ℕ} → WholeLink s a (c .at .0) n → LinkScanned s a (Whole c n)
 
+-- the counts are those of the header's reading
+pub record CountsOf (s : List ℕ) (n : Counts) : Type 0 where
+  pub reading : List Link
+  pub reads : Reading rfc8288 s reading
+  pub links : n .links ≡ length reading
+  pub params : n .params ≡ countParams reading
+
 pub data HeaderScanned (s : List ℕ) : HeaderScan → Type 0 where
   malformed-at : {p : Place} → MalformedAt rfc8288 s (p .0) → HeaderScanned s (Malformed p)
-  counted : {n m : ℕ} {K : List Link} → Reading rfc8288 s K → n ≡ length K → m ≡ countParams K → HeaderScanned s (Counted n m)
+  counted : {n : Counts} → CountsOf s n → HeaderScanned s (Counted n)

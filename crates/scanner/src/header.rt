@@ -1,39 +1,42 @@
-// A header: places parted by commas, each empty or one link.
+// A header: items parted by commas, each empty or one link.
 ghost use Rattle.scanner.specs.Linked.{HeaderScanned};
 use crate::HeaderScan;
-use crate::LinkScan;
+use crate::link::LinkScan;
 use crate::link::past_link;
 use cursor::Cursor;
-use kinds::Place;
+use kinds::Counts;
 
 // Judges the whole header, and counts.
 pub fn scan(s: &[u8]) -> HeaderScan
     ensures { λ r. ⌜ HeaderScanned (now (s .entry)) r ⌝ }
 {
     let mut c = Cursor::start();
-    let mut links: usize = 0;
-    let mut params: usize = 0;
+    let mut counts = Counts {
+        links: 0,
+        params: 0,
+    };
     loop {
         let i = c.past_blanks(s);
         if i.at.0 >= s.len() {
-            return HeaderScan::Counted(links, params);
+            return HeaderScan::Counted(counts);
         }
         if i.sees(s, b',') {
             c = i.past_octet(s);
             continue;
         }
         if !i.sees(s, b'<') {
-            return HeaderScan::Malformed(Place(i.at.0));
+            let at = i.at;
+            return HeaderScan::Malformed(at);
         }
         match past_link(s, i.past_octet(s)) {
             LinkScan::NoLink(p) => {
                 return HeaderScan::Malformed(p);
             }
             LinkScan::Whole(d, kept) => {
-                links += 1;
-                params += kept;
+                counts.links += 1;
+                counts.params += kept;
                 if d.at.0 >= s.len() {
-                    return HeaderScan::Counted(links, params);
+                    return HeaderScan::Counted(counts);
                 }
                 c = d.past_octet(s);
             }

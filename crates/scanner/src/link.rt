@@ -4,12 +4,19 @@ ghost use mathlib.Core.Bool.{cond};
 ghost use Prim.Native.Nat.{_+_, _^_, _≤_, _<_};
 ghost use lib.ListN.{length};
 ghost use Rattle.scanner.specs.Linked.{ParamsScanned, LinkScanned};
-use crate::LinkScan;
-use crate::ParamScan;
-use crate::Scan;
 use cursor::Cursor;
 use kinds::Place;
 use names::Seen;
+use scan_parts::ParamScan;
+use scan_parts::Scan;
+use scan_parts::param::past_param;
+use scan_parts::target::past_target;
+
+// A link's cursor behind its parameters, at a comma or the end, and how many of them are kept.
+pub enum LinkScan {
+    NoLink(Place),
+    Whole(Cursor, usize),
+}
 
 // One more is kept, unless its name stood before.
 fn counted(kept: usize, again: bool) -> usize
@@ -23,7 +30,7 @@ fn counted(kept: usize, again: bool) -> usize
 }
 
 // The parameters behind a link's `>`, up to a comma or the end.
-pub fn past_params(s: &[u8], from: Cursor) -> LinkScan
+fn past_params(s: &[u8], from: Cursor) -> LinkScan
     requires { ⌜ from .at .0 ≤ length (now s) ⌝ }
     ensures { λ r. ⌜ ParamsScanned (now (s .entry)) (from .at .0) r ⌝ }
 {
@@ -39,14 +46,16 @@ pub fn past_params(s: &[u8], from: Cursor) -> LinkScan
             return LinkScan::Whole(i, kept);
         }
         if !i.sees(s, b';') {
-            return LinkScan::NoLink(Place(i.at.0));
+            let at = i.at;
+            return LinkScan::NoLink(at);
         }
-        match crate::param::past_param(s, i.past_octet(s).past_blanks(s)) {
+        match past_param(s, i.past_octet(s).past_blanks(s)) {
             ParamScan::NoParam(p) => {
                 return LinkScan::NoLink(p);
             }
             ParamScan::Param(r, d) => {
-                let code = names::code(s, r.name.from.0, r.name.to.0);
+                let name = r.name;
+                let code = names::code(s, name);
                 kept = counted(kept, seen.has(code));
                 seen = seen.with(code);
                 c = d;
@@ -60,7 +69,7 @@ pub fn past_link(s: &[u8], from: Cursor) -> LinkScan
     requires { ⌜ from .at .0 ≤ length (now s) ⌝ }
     ensures { λ r. ⌜ LinkScanned (now (s .entry)) (from .at .0) r ⌝ }
 {
-    match crate::target::past_target(s, from) {
+    match past_target(s, from) {
         Scan::Stuck(p) => LinkScan::NoLink(p),
         Scan::Past(c) => past_params(s, c.past_octet(s)),
     }

@@ -1,5 +1,4 @@
 -- The part that is lent is the slice that the contract speaks of.
-use native.Mathlib.Omega.{arith}
 use borrow.Author.Needs.{needs}
 use Rattle.octets.proofs.Laws.{slice-take-drop}
 use Rattle.names.proofs.code.Statement.{statement}
@@ -19,8 +18,8 @@ code-of-requires c κs = search needs
 
 returns : tie.Need-returns
 returns c =
-    rw (slice-take-drop (c .before .before .before .args .a) (c .before .before .before .args .e) _ (omega arith))
-    (c .code-of .ensures)
+    let start = c .before .before .before in
+    rw (slice-take-drop (start .args .name .from .0) (start .args .name .to .0) _ (start .pre .ordered)) (c .code-of .ensures)
 
 pub code-spec : {M : Type 1} → statement M
 code-spec =

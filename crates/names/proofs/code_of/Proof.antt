@@ -11,61 +11,61 @@ use Rattle.names.proofs.code_of.Statement.{statement}
 use Rattle.names.proofs.code_of.Tie as tie
 
 -- the code of n is told by the names that are left, numbered from k on
-record Left (n : List ℕ) (ms : List (List ℕ)) (k : ℕ) : Type 0 where
+record ToldBy (n : List ℕ) (ms : List (List ℕ)) (k : ℕ) : Type 0 where
   told : codeOf (folded n) ≡ codeFrom ms k (folded n)
 
-all-left : (n : List ℕ) → Left n onceNames 1
+all-left : (n : List ℕ) → ToldBy n onceNames 1
 unfolding codeOf
 all-left n = record { told = refl }
 
-module _ {n m : List ℕ} {ms : List (List ℕ)} {k : ℕ} {r : Bool} (l : Left n (m ∷ ms) k) (low : folded m ≡ m) (e : r ≡ sameFolded n m) where
+module _ {n m : List ℕ} {ms : List (List ℕ)} {k : ℕ} {r : Bool} (l : ToldBy n (m ∷ ms) k) (low : folded m ≡ m) (e : r ≡ sameFolded n m) where
   hit : r ≡ true → k ≡ codeOf (folded n)
   unfolding sameFolded
   hit t = rw (l .told, ← low, sym e ∙ t)
 
-  miss : r ≡ false → Left n ms (suc k)
+  miss : r ≡ false → ToldBy n ms (suc k)
   unfolding sameFolded
   miss f = record { told = l .told ∙ rw (← low, sym e ∙ f) }
 
 abbrev text1 : tie.Else1 → List ℕ
 text1 c = c .before .before .before .before .args .n .now
 
-left1 : (c : tie.Else1) → Left (text1 c) (drop 1 onceNames) 2
+left1 : (c : tie.Else1) → ToldBy (text1 c) (drop 1 onceNames) 2
 unfolding fold
 left1 c = miss (all-left _) refl (c .before .same-folded .ensures) (c .if1 .left)
 
 abbrev text2 : tie.Else2 → List ℕ
 text2 c = text1 (c .before .before .before)
 
-left2 : (c : tie.Else2) → Left (text2 c) (drop 2 onceNames) 3
+left2 : (c : tie.Else2) → ToldBy (text2 c) (drop 2 onceNames) 3
 unfolding fold
 left2 c = miss (left1 (c .before .before .before)) refl (c .before .same-folded2 .ensures) (c .if2 .left)
 
 abbrev text3 : tie.Else3 → List ℕ
 text3 c = text2 (c .before .before .before)
 
-left3 : (c : tie.Else3) → Left (text3 c) (drop 3 onceNames) 4
+left3 : (c : tie.Else3) → ToldBy (text3 c) (drop 3 onceNames) 4
 unfolding fold
 left3 c = miss (left2 (c .before .before .before)) refl (c .before .same-folded3 .ensures) (c .if3 .left)
 
 abbrev text4 : tie.Else4 → List ℕ
 text4 c = text3 (c .before .before .before)
 
-left4 : (c : tie.Else4) → Left (text4 c) (drop 4 onceNames) 5
+left4 : (c : tie.Else4) → ToldBy (text4 c) (drop 4 onceNames) 5
 unfolding fold
 left4 c = miss (left3 (c .before .before .before)) refl (c .before .same-folded4 .ensures) (c .if4 .left)
 
 abbrev text5 : tie.Else5 → List ℕ
 text5 c = text4 (c .before .before .before)
 
-left5 : (c : tie.Else5) → Left (text5 c) (drop 5 onceNames) 6
+left5 : (c : tie.Else5) → ToldBy (text5 c) (drop 5 onceNames) 6
 unfolding fold
 left5 c = miss (left4 (c .before .before .before)) refl (c .before .same-folded5 .ensures) (c .if5 .left)
 
 abbrev text6 : tie.Else6 → List ℕ
 text6 c = text5 (c .before .before .before)
 
-left6 : (c : tie.Else6) → Left (text6 c) (drop 6 onceNames) 7
+left6 : (c : tie.Else6) → ToldBy (text6 c) (drop 6 onceNames) 7
 unfolding fold
 left6 c = miss (left5 (c .before .before .before)) refl (c .before .same-folded6 .ensures) (c .if6 .left)
 

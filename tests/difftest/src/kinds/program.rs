@@ -1,4 +1,6 @@
-//! The listing program, at the edges of its rooms and its input.
+//! The listing program, with each end of its input, and at the edges of its rooms and its limit.
+
+mod inputs;
 
 use crate::compare::Compared;
 use crate::run::Run;
@@ -9,7 +11,7 @@ use std::process::{Command, Output, Stdio};
 
 pub fn compare(run: &mut Run, program: &Path) -> Compared<()> {
     run.begin("program");
-    for input in inputs() {
+    for input in inputs::inputs() {
         run.case();
         let expected = oracle::listing(&input);
         let (ended, status, listed) = match output(program, &input) {
@@ -43,42 +45,4 @@ fn output(program: &Path, input: &[u8]) -> io::Result<Output> {
     let output = child.wait_with_output()?;
     let _ = writer.join();
     Ok(output)
-}
-
-fn inputs() -> Vec<Vec<u8>> {
-    let mut inputs: Vec<Vec<u8>> = super::stored::headers().map(<[u8]>::to_vec).collect();
-    inputs.extend(
-        inputs
-            .clone()
-            .iter()
-            .map(|header| [header, &b"\n"[..]].concat()),
-    );
-    for links in [255, 256, 257] {
-        inputs.push(b"<>,".repeat(links));
-        inputs.push([&b"<>,".repeat(links - 1)[..], b"<>;x"].concat());
-    }
-    for params in [1023, 1024, 1025] {
-        inputs.push([b"<>", &b";x".repeat(params)[..]].concat());
-        // What is not kept takes no room.
-        inputs.push([b"<>", &b";x".repeat(params - 1)[..], b";rel;rel"].concat());
-    }
-    inputs.push([&b"<>,".repeat(256)[..], b"<>", &b";x".repeat(1025)].concat());
-    for length in [8191, 8192, 8193, 8194, 8195, 9000, 70000] {
-        for end in [&b""[..], b"\n", b"\n\n", b"\r\n"] {
-            inputs.push([&b" ".repeat(length)[..], end].concat());
-            inputs.push([b"<", &b"a".repeat(length - 2)[..], b">", end].concat());
-        }
-    }
-    for ends in [
-        &b"\n"[..],
-        b"\n\n",
-        b"\n<a>",
-        b"<a>\n<b>",
-        b"<a>\n\n",
-        b"<a>\0",
-        b"\0",
-    ] {
-        inputs.push(ends.to_vec());
-    }
-    inputs
 }

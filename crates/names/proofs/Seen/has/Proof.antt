@@ -1,7 +1,7 @@
 -- The expression is that of the definition.
 use mathlib.Core.Path.{refl}
 use borrow.Author.Needs.{needs}
-use Rattle.names.specs.Holds.{hasCode}
+use Rattle.names.specs.Remembers.{hasCode}
 use Rattle.names.proofs.Seen.has.Statement.{statement}
 use Rattle.names.proofs.Seen.has.Tie as tie
 

@@ -1,6 +1,6 @@
 -- The record is that of the definition.
 use mathlib.Core.Path.{refl}
-use Rattle.names.specs.Holds.{noneSeen}
+use Rattle.names.specs.Remembers.{noneSeen}
 use Rattle.names.proofs.Seen.none.Statement.{statement}
 use Rattle.names.proofs.Seen.none.Tie as tie
 

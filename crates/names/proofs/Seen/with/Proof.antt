@@ -6,7 +6,7 @@ use lib.Dec.{eqb}
 use borrow.Author.Needs.{needs}
 use borrow.Author.Tests.{eqb-true}
 use Rattle.octets.proofs.Octets.{every-at}
-use Rattle.names.specs.Holds.{withCode}
+use Rattle.names.specs.Remembers.{withCode}
 use Rattle.names.proofs.Seen.with.Statement.{statement}
 use Rattle.names.proofs.Seen.with.Tie as tie
 

@@ -1,18 +1,18 @@
--- Each turn passes an empty place or a link; each return says why it ended there.
+-- Each turn passes an empty item or a link; each return says why it ended there.
 use Prim.Native.Nat.{_-_}
 use native.Mathlib.Omega.{arith}
 use lib.ListN.{length}
 use borrow.Author.Needs.{needs}
 use borrow.Author.Tests.{not-false}
-use Rattle.scanner.proofs.Headers.{Between, start, ended, comma, no-start, link-stuck, whole-forward, link-ended, link-comma}
+use Rattle.scanner.proofs.LinksSoFar.{LinksSoFar, start, ended, comma, no-start, link-stuck, whole-forward, link-ended, more}
 use Rattle.scanner.proofs.header.scan.Statement.{statement}
 use Rattle.scanner.proofs.header.scan.Tie as tie
 
 abbrev Inv-loop : tie.InvT-loop
-Inv-loop s c₀ links₀ params₀ c links params = Between s (c .at .0) links params
+Inv-loop s c₀ counts₀ c counts = LinksSoFar s (c .at .0) counts
 
 abbrev μ-loop : tie.MeasureT-loop
-μ-loop s c₀ links₀ params₀ c links params = length s - c .at .0
+μ-loop s c₀ counts₀ c counts = length s - c .at .0
 
 start-requires : tie.Need-start-requires Inv-loop μ-loop
 start-requires c κs = search needs
@@ -42,7 +42,7 @@ sees-requires-2 : tie.Need-sees-requires-2 Inv-loop μ-loop
 sees-requires-2 c κs = search needs
 
 returns-2 : tie.Need-returns-2 Inv-loop μ-loop
-returns-2 c = no-start (c .before .before .before .before .before .before .before .loop .inv) (c .before .before .before .before .before .before .past-blanks .ensures) (c .before .before .before .before .if1 .left) (c .before .before .before .sees .ensures) (c .before .before .if2 .left) (c .before .sees2 .ensures) (c .if3 .taken)
+returns-2 c = no-start (c .before .before .before .before .before .before .before .before .loop .inv) (c .before .before .before .before .before .before .before .past-blanks .ensures) (c .before .before .before .before .before .if1 .left) (c .before .before .before .before .sees .ensures) (c .before .before .before .if2 .left) (c .before .before .sees2 .ensures) (c .before .if3 .taken)
 
 past-octet-requires-2 : tie.Need-past-octet-requires-2 Inv-loop μ-loop
 past-octet-requires-2 c κs = search needs
@@ -61,25 +61,25 @@ returns-3 c =
 enum-known-d : tie.Need-enum-known-d Inv-loop μ-loop
 enum-known-d c = search needs
 
-add-links : tie.Need-add-links Inv-loop μ-loop
-add-links c = omega (arith, (c .before .before .before .before .before .before .before .before .before .before .before .before .loop .inv .few-links), (c .before .before .before .before .before .before .before .before .before .before .before .before .loop .inv .stands .inside), (c .before .before .before .before .before .before .before .before .before .before .before .past-blanks .ensures .forward), (c .before .before .before .before .before .before .before .before .before .if1 .left), (c .before .before .before .before .before .before .before .before .before .before .before .before .before .before .before .good .0 .0))
+add-counts : tie.Need-add-counts Inv-loop μ-loop
+add-counts c = omega (arith, (c .before .before .before .before .before .before .before .before .before .before .before .before .before .loop .inv .few-links), (c .before .before .before .before .before .before .before .before .before .before .before .before .before .loop .inv .stands .inside), (c .before .before .before .before .before .before .before .before .before .before .before .before .past-blanks .ensures .forward), (c .before .before .before .before .before .before .before .before .before .before .if1 .left), (c .before .before .before .before .before .before .before .before .before .before .before .before .before .before .before .before .good .0 .0))
 
-add-params : tie.Need-add-params Inv-loop μ-loop
-add-params c =
+add-counts-2 : tie.Need-add-counts-2 Inv-loop μ-loop
+add-counts-2 c =
     omega (
       arith,
-      (c .before .before .before .before .before .before .before .before .before .before .before .before .loop .inv .few-params),
-      (c .before .before .before .before .before .before .before .before .before .before .before .past-blanks .ensures .forward),
-      (c .before .before .before .before .past-octet2 .ensures),
-      whole-forward (c .before .before .before .past-link .ensures) (c .before .d .given .1) .0,
-      whole-forward (c .before .before .before .past-link .ensures) (c .before .d .given .1) .1,
-      (c .before .before .before .before .before .before .before .before .before .before .before .before .before .before .before .good .0 .0),
+      (c .before .before .before .before .before .before .before .before .before .before .before .before .before .before .loop .inv .few-params),
+      (c .before .before .before .before .before .before .before .before .before .before .before .before .before .past-blanks .ensures .forward),
+      (c .before .before .before .before .before .before .past-octet2 .ensures),
+      whole-forward (c .before .before .before .before .before .before .before .before .before .before .before .before .before .before .loop .inv) (c .before .before .before .before .before .before .before .before .before .before .before .before .before .past-blanks .ensures) ((c .before .before .before .before .before .before .before .before .sees2 .ensures .yes) (not-false (c .before .before .before .before .before .before .before .before .sees2 .result) (c .before .before .before .before .before .before .before .if3 .left))) (c .before .before .before .before .before .before .past-octet2 .ensures) (c .before .before .before .before .before .past-link .ensures) (c .before .before .before .d .given .1) .0,
+      whole-forward (c .before .before .before .before .before .before .before .before .before .before .before .before .before .before .loop .inv) (c .before .before .before .before .before .before .before .before .before .before .before .before .before .past-blanks .ensures) ((c .before .before .before .before .before .before .before .before .sees2 .ensures .yes) (not-false (c .before .before .before .before .before .before .before .before .sees2 .result) (c .before .before .before .before .before .before .before .if3 .left))) (c .before .before .before .before .before .before .past-octet2 .ensures) (c .before .before .before .before .before .past-link .ensures) (c .before .before .before .d .given .1) .1,
+      (c .before .before .before .before .before .before .before .before .before .before .before .before .before .before .before .before .before .good .0 .0),
     )
 
 returns-4 : tie.Need-returns-4 Inv-loop μ-loop
 returns-4 c =
-    link-ended (c .before .before .before .before .before .before .before .before .before .before .before .before .before .before .loop .inv) (c .before .before .before .before .before .before .before .before .before .before .before .before .before .past-blanks .ensures) ((c .before .before .before .before .before .before .before .before .sees2 .ensures .yes) (not-false (c .before .before .before .before .before .before .before .before .sees2 .result) (c .before .before .before .before .before .before .before .if3 .left))) (c .before .before .before .before .before .before .past-octet2 .ensures)
-    (c .before .before .before .before .before .past-link .ensures) (c .before .before .before .d .given .1) (c .if4 .taken)
+    link-ended (c .before .before .before .before .before .before .before .before .before .before .before .before .before .before .before .before .loop .inv) (c .before .before .before .before .before .before .before .before .before .before .before .before .before .before .before .past-blanks .ensures) ((c .before .before .before .before .before .before .before .before .before .before .sees2 .ensures .yes) (not-false (c .before .before .before .before .before .before .before .before .before .before .sees2 .result) (c .before .before .before .before .before .before .before .before .before .if3 .left))) (c .before .before .before .before .before .before .before .before .past-octet2 .ensures)
+    (c .before .before .before .before .before .before .before .past-link .ensures) (c .before .before .before .before .before .d .given .1) (c .if4 .taken)
 
 past-octet-requires-3 : tie.Need-past-octet-requires-3 Inv-loop μ-loop
 past-octet-requires-3 c κs = search needs
@@ -89,16 +89,16 @@ loop-less-2 c =
     omega (
       arith,
       (c .past-octet3 .ensures),
-      (c .before .before .before .before .before .before .before .before .before .before .before .before .before .before .past-blanks .ensures .forward),
-      (c .before .before .before .before .before .before .before .past-octet2 .ensures),
-      whole-forward (c .before .before .before .before .before .before .past-link .ensures) (c .before .before .before .before .d .given .1) .0,
+      (c .before .before .before .before .before .before .before .before .before .before .before .before .before .before .before .before .past-blanks .ensures .forward),
+      (c .before .before .before .before .before .before .before .before .before .past-octet2 .ensures),
+      whole-forward (c .before .before .before .before .before .before .before .before .before .before .before .before .before .before .before .before .before .loop .inv) (c .before .before .before .before .before .before .before .before .before .before .before .before .before .before .before .before .past-blanks .ensures) ((c .before .before .before .before .before .before .before .before .before .before .before .sees2 .ensures .yes) (not-false (c .before .before .before .before .before .before .before .before .before .before .before .sees2 .result) (c .before .before .before .before .before .before .before .before .before .before .if3 .left))) (c .before .before .before .before .before .before .before .before .before .past-octet2 .ensures) (c .before .before .before .before .before .before .before .before .past-link .ensures) (c .before .before .before .before .before .before .d .given .1) .0,
       (c .before .if4 .left),
     )
 
 loop-again-2 : tie.Need-loop-again-2 Inv-loop μ-loop
 loop-again-2 c =
-    link-comma (c .before .before .before .before .before .before .before .before .before .before .before .before .before .before .before .loop .inv) (c .before .before .before .before .before .before .before .before .before .before .before .before .before .before .past-blanks .ensures) ((c .before .before .before .before .before .before .before .before .before .sees2 .ensures .yes) (not-false (c .before .before .before .before .before .before .before .before .before .sees2 .result) (c .before .before .before .before .before .before .before .before .if3 .left))) (c .before .before .before .before .before .before .before .past-octet2 .ensures)
-    (c .before .before .before .before .before .before .past-link .ensures) (c .before .before .before .before .d .given .1) (c .before .if4 .left) (c .past-octet3 .ensures)
+    more (c .before .before .before .before .before .before .before .before .before .before .before .before .before .before .before .before .before .loop .inv) (c .before .before .before .before .before .before .before .before .before .before .before .before .before .before .before .before .past-blanks .ensures) ((c .before .before .before .before .before .before .before .before .before .before .before .sees2 .ensures .yes) (not-false (c .before .before .before .before .before .before .before .before .before .before .before .sees2 .result) (c .before .before .before .before .before .before .before .before .before .before .if3 .left))) (c .before .before .before .before .before .before .before .before .before .past-octet2 .ensures)
+    (c .before .before .before .before .before .before .before .before .past-link .ensures) (c .before .before .before .before .before .before .d .given .1) (c .before .if4 .left) (c .past-octet3 .ensures)
 
 pub scan-spec : {M : Type 1} → statement M
 scan-spec =
@@ -121,8 +121,8 @@ scan-spec =
     enum-known-p
     returns-3
     enum-known-d
-    add-links
-    add-params
+    add-counts
+    add-counts-2
     returns-4
     past-octet-requires-3
     loop-less-2

@@ -2,7 +2,6 @@
 use native.Mathlib.Nat.{add-zero}
 use mathlib.Core.Path.{sym}
 use borrow.Author.Needs.{needs}
-use borrow.Author.Needs.{needs}
 use Rattle.scanner.proofs.link.counted.Statement.{statement}
 use Rattle.scanner.proofs.link.counted.Tie as tie
 

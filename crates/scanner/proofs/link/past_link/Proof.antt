@@ -1,7 +1,6 @@
 -- A target, and then the parameters.
 use native.Mathlib.Omega.{arith}
-use borrow.Author.Needs.{needs}
-use Rattle.scanner.proofs.Links.{target-stuck, target-inside, target-passed}
+use Rattle.scanner.proofs.ReadyBehindLink.{target-stuck, target-inside, target-passed}
 use borrow.Author.Needs.{needs}
 use Rattle.scanner.proofs.link.past_link.Statement.{statement}
 use Rattle.scanner.proofs.link.past_link.Tie as tie

@@ -2,16 +2,17 @@
 use Prim.Native.Nat.{_-_}
 use native.Mathlib.Omega.{arith}
 use mathlib.Core.Logic.{inl, inr}
-use mathlib.Core.List.{[]}
+use mathlib.Core.List.{List, []}
 use lib.ListN.{length}
 use borrow.Author.Needs.{needs}
 use borrow.Author.Tests.{not-false}
-use Rattle.scanner.proofs.Links.{Going, begin, going-forward, on, param-inside, params-ended, neither, param-stuck}
+use Rattle.grammar.specs.Link.{Param}
+use Rattle.scanner.proofs.ParamsSoFar.{ParamsSoFar, begin, few-so-far, more, param-inside, params-ended, neither, param-stuck}
 use Rattle.scanner.proofs.link.past_params.Statement.{statement}
 use Rattle.scanner.proofs.link.past_params.Tie as tie
 
 abbrev Inv-loop : tie.InvT-loop
-Inv-loop s c₀ kept₀ seen₀ c kept seen = Going s (c₀ .at .0) (c .at .0) kept seen
+Inv-loop s c₀ kept₀ seen₀ c kept seen = (params : List Param) × ParamsSoFar s (c₀ .at .0) (c .at .0) kept seen params
 
 abbrev μ-loop : tie.MeasureT-loop
 μ-loop s c₀ kept₀ seen₀ c kept seen = length s - c .at .0
@@ -26,19 +27,19 @@ past-blanks-requires : tie.Need-past-blanks-requires Inv-loop μ-loop
 past-blanks-requires c κs = (c .loop .inv .1 .inside)
 
 returns : tie.Need-returns Inv-loop μ-loop
-returns c = params-ended (c .before .before .before .loop .inv) (c .before .before .past-blanks .ensures) (inl (c .if1 .taken))
+returns c = params-ended (c .before .before .before .loop .inv .1) (c .before .before .past-blanks .ensures) (inl (c .if1 .taken))
 
 sees-requires : tie.Need-sees-requires Inv-loop μ-loop
 sees-requires c κs = search needs
 
 returns-2 : tie.Need-returns-2 Inv-loop μ-loop
-returns-2 c = params-ended (c .before .before .before .before .before .loop .inv) (c .before .before .before .before .past-blanks .ensures) (inr ((c .before .sees .ensures .yes) (c .if2 .taken)))
+returns-2 c = params-ended (c .before .before .before .before .before .loop .inv .1) (c .before .before .before .before .past-blanks .ensures) (inr ((c .before .sees .ensures .yes) (c .if2 .taken)))
 
 sees-requires-2 : tie.Need-sees-requires-2 Inv-loop μ-loop
 sees-requires-2 c κs = search needs
 
 returns-3 : tie.Need-returns-3 Inv-loop μ-loop
-returns-3 c = neither (c .before .before .before .before .before .before .before .loop .inv) (c .before .before .before .before .before .before .past-blanks .ensures) (c .before .before .before .before .if1 .left) (c .before .before .before .sees .ensures) (c .before .before .if2 .left) (c .before .sees2 .ensures) (c .if3 .taken)
+returns-3 c = neither (c .before .before .before .before .before .before .before .before .loop .inv .1) (c .before .before .before .before .before .before .before .past-blanks .ensures) (c .before .before .before .before .before .if1 .left) (c .before .before .before .before .sees .ensures) (c .before .before .before .if2 .left) (c .before .before .sees2 .ensures) (c .before .if3 .taken)
 
 past-octet-requires : tie.Need-past-octet-requires Inv-loop μ-loop
 past-octet-requires c κs = search needs
@@ -54,21 +55,20 @@ enum-known-p c = search needs
 
 returns-4 : tie.Need-returns-4 Inv-loop μ-loop
 returns-4 c =
-    param-stuck (c .before .before .before .before .before .before .before .before .before .before .before .before .before .loop .inv) (c .before .before .before .before .before .before .before .before .before .before .before .before .past-blanks .ensures) ((c .before .before .before .before .before .before .before .sees2 .ensures .yes) (not-false (c .before .before .before .before .before .before .before .sees2 .result) (c .before .before .before .before .before .before .if3 .left))) (c .before .before .before .before .before .past-octet .ensures)
+    param-stuck (c .before .before .before .before .before .before .before .before .before .before .before .before .before .loop .inv .1) (c .before .before .before .before .before .before .before .before .before .before .before .before .past-blanks .ensures) ((c .before .before .before .before .before .before .before .sees2 .ensures .yes) (not-false (c .before .before .before .before .before .before .before .sees2 .result) (c .before .before .before .before .before .before .if3 .left))) (c .before .before .before .before .before .past-octet .ensures)
     (c .before .before .before .before .past-blanks2 .ensures) (c .before .before .before .past-param .ensures) (c .before .p .given .1)
 
 enum-known-r : tie.Need-enum-known-r Inv-loop μ-loop
 enum-known-r c = search needs
 
 code-requires : tie.Need-code-requires Inv-loop μ-loop
-code-requires c κs =
-    (param-inside (c .before .before .before .past-param .ensures) (c .before .r .given .1) .2, param-inside (c .before .before .before .past-param .ensures) (c .before .r .given .1) .3)
+code-requires c κs = param-inside (c .before .before .before .before .past-param .ensures) (c .before .before .r .given .1) .2
 
 has-requires : tie.Need-has-requires Inv-loop μ-loop
 has-requires c κs = search needs
 
 counted-requires : tie.Need-counted-requires Inv-loop μ-loop
-counted-requires c κs = omega (arith, going-forward (c .before .before .before .before .before .before .before .before .before .before .before .before .before .before .before .loop .inv .1), (c .before .before .before .before .before .before .before .before .before .before .before .before .before .before .past-blanks .ensures .forward), (c .before .before .before .before .before .before .before .before .before .before .before .before .if1 .left), (c .before .before .before .before .before .before .before .before .before .before .before .before .before .before .before .before .before .before .good .0 .0))
+counted-requires c κs = omega (arith, few-so-far (c .before .before .before .before .before .before .before .before .before .before .before .before .before .before .before .before .loop .inv .1), (c .before .before .before .before .before .before .before .before .before .before .before .before .before .before .before .past-blanks .ensures .forward), (c .before .before .before .before .before .before .before .before .before .before .before .before .before .if1 .left), (c .before .before .before .before .before .before .before .before .before .before .before .before .before .before .before .before .before .before .before .good .0 .0))
 
 with-requires : tie.Need-with-requires Inv-loop μ-loop
 with-requires c κs = search needs
@@ -77,19 +77,19 @@ loop-less : tie.Need-loop-less Inv-loop μ-loop
 loop-less c =
     omega (
       arith,
-      param-inside (c .before .before .before .before .before .before .before .past-param .ensures) (c .before .before .before .before .before .r .given .1) .0,
-      param-inside (c .before .before .before .before .before .before .before .past-param .ensures) (c .before .before .before .before .before .r .given .1) .1,
-      (c .before .before .before .before .before .before .before .before .before .before .before .before .before .before .before .before .past-blanks .ensures .forward),
-      (c .before .before .before .before .before .before .before .before .before .past-octet .ensures),
-      (c .before .before .before .before .before .before .before .before .past-blanks2 .ensures .forward),
-      (c .before .before .before .before .before .before .before .before .before .before .before .before .before .before .if1 .left),
+      param-inside (c .before .before .before .before .before .before .before .before .past-param .ensures) (c .before .before .before .before .before .before .r .given .1) .0,
+      param-inside (c .before .before .before .before .before .before .before .before .past-param .ensures) (c .before .before .before .before .before .before .r .given .1) .1,
+      (c .before .before .before .before .before .before .before .before .before .before .before .before .before .before .before .before .before .past-blanks .ensures .forward),
+      (c .before .before .before .before .before .before .before .before .before .before .past-octet .ensures),
+      (c .before .before .before .before .before .before .before .before .before .past-blanks2 .ensures .forward),
+      (c .before .before .before .before .before .before .before .before .before .before .before .before .before .before .before .if1 .left),
     )
 
 loop-again : tie.Need-loop-again Inv-loop μ-loop
 loop-again c = (
   _,
-  on (c .before .before .before .before .before .before .before .before .before .before .before .before .before .before .before .before .before .loop .inv .1) (c .before .before .before .before .before .before .before .before .before .before .before .before .before .before .before .before .past-blanks .ensures) ((c .before .before .before .before .before .before .before .before .before .before .before .sees2 .ensures .yes) (not-false (c .before .before .before .before .before .before .before .before .before .before .before .sees2 .result) (c .before .before .before .before .before .before .before .before .before .before .if3 .left))) (c .before .before .before .before .before .before .before .before .before .past-octet .ensures)
-      (c .before .before .before .before .before .before .before .before .past-blanks2 .ensures) (c .before .before .before .before .before .before .before .past-param .ensures) (c .before .before .before .before .before .r .given .1) (c .before .before .before .code .ensures) (c .before .before .has .ensures) (c .before .counted .ensures) (c .with .ensures),
+  more (c .before .before .before .before .before .before .before .before .before .before .before .before .before .before .before .before .before .before .loop .inv .1) (c .before .before .before .before .before .before .before .before .before .before .before .before .before .before .before .before .before .past-blanks .ensures) ((c .before .before .before .before .before .before .before .before .before .before .before .before .sees2 .ensures .yes) (not-false (c .before .before .before .before .before .before .before .before .before .before .before .before .sees2 .result) (c .before .before .before .before .before .before .before .before .before .before .before .if3 .left))) (c .before .before .before .before .before .before .before .before .before .before .past-octet .ensures)
+      (c .before .before .before .before .before .before .before .before .before .past-blanks2 .ensures) (c .before .before .before .before .before .before .before .before .past-param .ensures) (c .before .before .before .before .before .before .r .given .1) (c .before .before .before .code .ensures) (c .before .before .has .ensures) (c .before .counted .ensures) (c .with .ensures),
 )
 
 pub past-params-spec : {M : Type 1} → statement M

@@ -1,0 +1,2 @@
+-- What the functions of the crate `known` ask and promise.
+pub mod Known

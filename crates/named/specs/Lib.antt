@@ -1,0 +1,2 @@
+-- What the crate `named` means by its words.
+pub mod First

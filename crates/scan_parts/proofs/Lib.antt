@@ -1,0 +1,9 @@
+-- Laws of where the machine stands within a link, and of what its parts are parsed as.
+pub mod Standing
+pub mod HexDigits
+pub mod TargetSoFar
+pub mod InsideSoFar
+pub mod ReadyBehindValue
+pub mod ReadyBehindParam
+pub mod PassedIsParsed
+pub mod PartsScanned

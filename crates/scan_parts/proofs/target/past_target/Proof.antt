@@ -1,0 +1,100 @@
+-- The loop passes triples and runs of target octets; each return says why it ended there.
+use Prim.Native.Nat.{_-_}
+use native.Mathlib.Omega.{arith}
+use lib.ListN.{length}
+use borrow.Author.Needs.{needs}
+use Rattle.scan_parts.specs.Scanned.{no-target}
+use Rattle.scan_parts.proofs.TargetSoFar.{TargetSoFar, begin, since, more, past-inside, cut-short, is-closed, no-octet, no-triple}
+use Rattle.scan_parts.proofs.target.past_target.Statement.{statement}
+use Rattle.scan_parts.proofs.target.past_target.Tie as tie
+
+abbrev Inv-loop : tie.InvT-loop
+Inv-loop s c₀ c = TargetSoFar s (c₀ .at .0) (c .at .0)
+
+abbrev μ-loop : tie.MeasureT-loop
+μ-loop s c₀ c = length s - c .at .0
+
+past-target-requires : tie.Need-past-target-requires Inv-loop μ-loop
+past-target-requires c κs = c .before .pre
+
+loop-holds : tie.Need-loop-holds Inv-loop μ-loop
+loop-holds c = begin (c .past-target .ensures)
+
+returns : tie.Need-returns Inv-loop μ-loop
+returns c =
+    no-target (cut-short (since (c .before .before .before .past-target .ensures) (c .before .before .loop .inv)) (c .if1 .taken))
+
+shared-slice-read-if2 : tie.Need-shared-slice-read-if2 Inv-loop μ-loop
+shared-slice-read-if2 c = search needs
+
+returns-2 : tie.Need-returns-2 Inv-loop μ-loop
+returns-2 c =
+    is-closed (since (c .before .before .before .before .before .past-target .ensures) (c .before .before .before .before .loop .inv)) (c .before .before .if1 .left) (c .if2 .taken)
+
+shared-slice-read-if3 : tie.Need-shared-slice-read-if3 Inv-loop μ-loop
+shared-slice-read-if3 c = search needs
+
+returns-3 : tie.Need-returns-3 Inv-loop μ-loop
+returns-3 c =
+    no-target
+    (no-octet (since (c .before .before .before .before .before .before .before .past-target .ensures) (c .before .before .before .before .before .before .loop .inv)) (c .before .before .before .before .if1 .left)
+    (c .before .before .if2 .left) (c .if3 .taken))
+
+past-octet-requires : tie.Need-past-octet-requires Inv-loop μ-loop
+past-octet-requires c κs = search needs
+
+past-triple-requires : tie.Need-past-triple-requires Inv-loop μ-loop
+past-triple-requires c κs = search needs
+
+enum-known-p : tie.Need-enum-known-p Inv-loop μ-loop
+enum-known-p c = search needs
+
+returns-4 : tie.Need-returns-4 Inv-loop μ-loop
+returns-4 c =
+    no-target
+    (no-triple (since (c .before .before .before .before .before .before .before .before .before .before .before .before .past-target .ensures) (c .before .before .before .before .before .before .before .before .before .before .before .loop .inv)) (c .before .before .before .before .before .before .before .before .before .if1 .left)
+    (c .before .before .before .before .before .if3 .left) (c .before .before .before .before .past-octet .ensures) (c .before .before .before .past-triple .ensures) (c .before .p .given .1))
+
+enum-known-d : tie.Need-enum-known-d Inv-loop μ-loop
+enum-known-d c = search needs
+
+past-target-requires-2 : tie.Need-past-target-requires-2 Inv-loop μ-loop
+past-target-requires-2 c κs = past-inside (c .before .before .before .past-triple .ensures) (c .before .d .given .1) .1
+
+loop-less : tie.Need-loop-less Inv-loop μ-loop
+loop-less c =
+    omega (
+      arith,
+      past-inside (c .before .before .before .before .past-triple .ensures) (c .before .before .d .given .1) .0,
+      c .before .before .before .before .before .past-octet .ensures,
+      c .past-target2 .ensures .forward,
+      c .past-target2 .ensures .inside,
+      c .before .before .before .before .before .before .before .before .before .before .if1 .left,
+    )
+
+loop-again : tie.Need-loop-again Inv-loop μ-loop
+loop-again c =
+    more (c .before .before .before .before .before .before .before .before .before .before .before .before .loop .inv) (c .before .before .before .before .before .before .before .before .before .before .if1 .left) (c .before .before .before .before .before .before .if3 .left) (c .before .before .before .before .before .past-octet .ensures)
+    (c .before .before .before .before .past-triple .ensures) (c .before .before .d .given .1) (c .past-target2 .ensures)
+
+pub past-target-spec : {M : Type 1} → statement M
+past-target-spec =
+    tie.close
+    (tie.spec
+    Inv-loop
+    μ-loop
+    past-target-requires
+    loop-holds
+    returns
+    shared-slice-read-if2
+    returns-2
+    shared-slice-read-if3
+    returns-3
+    past-octet-requires
+    past-triple-requires
+    enum-known-p
+    returns-4
+    enum-known-d
+    past-target-requires-2
+    loop-less
+    loop-again)

@@ -1,0 +1,68 @@
+-- A quoted string, a token, or neither.
+use native.Mathlib.Omega.{arith}
+use Rattle.scan_parts.specs.Scanned.{no-value, a-value}
+use Rattle.scan_parts.proofs.ReadyBehindValue.{no-value-here}
+use Rattle.scan_parts.proofs.PassedIsParsed.{token-parsed}
+use Rattle.scan_parts.proofs.PartsScanned.{quote-stuck, quote-passed, quote-inside}
+use borrow.Author.Needs.{needs}
+use Rattle.scan_parts.proofs.value.past_value.Statement.{statement}
+use Rattle.scan_parts.proofs.value.past_value.Tie as tie
+
+sees-requires : tie.Need-sees-requires
+sees-requires c κs = search needs
+
+past-octet-requires : tie.Need-past-octet-requires
+past-octet-requires c κs = ((c .before .sees .ensures .yes) (c .if1 .taken)) .inside
+
+past-inside-requires : tie.Need-past-inside-requires
+past-inside-requires c κs = omega (arith, (c .past-octet .ensures), ((c .before .before .sees .ensures .yes) (c .before .if1 .taken)) .inside)
+
+enum-known-p : tie.Need-enum-known-p
+enum-known-p c = search needs
+
+enum-known-q : tie.Need-enum-known-q
+enum-known-q c = search needs
+
+span-to-requires : tie.Need-span-to-requires
+span-to-requires c κs = search needs
+
+past-octet-requires-2 : tie.Need-past-octet-requires-2
+past-octet-requires-2 c κs = quote-inside (c .before .before .before .before .past-inside .ensures) (c .before .before .q .given .1)
+
+returns : tie.Need-returns
+returns c = quote-stuck ((c .before .before .before .before .before .before .sees .ensures .yes) (c .before .before .before .before .before .if1 .taken)) (c .before .before .before .before .past-octet .ensures) (c .before .before .before .past-inside .ensures) (c .before .p .given .1)
+
+returns-2 : tie.Need-returns-2
+returns-2 c =
+    quote-passed ((c .before .before .before .before .before .before .before .before .sees .ensures .yes) (c .before .before .before .before .before .before .before .if1 .taken)) (c .before .before .before .before .before .before .past-octet .ensures) (c .before .before .before .before .before .past-inside .ensures) (c .before .before .before .q .given .1) (c .before .span-to .ensures)
+    (c .past-octet2 .ensures)
+
+past-token-requires : tie.Need-past-token-requires
+past-token-requires c κs = (c .before .before .before .pre) .inside
+
+returns-3 : tie.Need-returns-3
+returns-3 c = no-value (no-value-here (c .before .before .before .before .before .before .before .before .pre) ((c .before .before .before .before .before .before .sees .ensures .not) (c .before .before .before .before .before .if1 .left)) (c .before .before .before .before .past-token .ensures) (c .before .if2 .taken))
+
+span-to-requires-2 : tie.Need-span-to-requires-2
+span-to-requires-2 c κs = search needs
+
+returns-4 : tie.Need-returns-4
+returns-4 c = a-value (token-parsed (c .before .before .before .before .past-token .ensures) (c .before .if2 .left) (c .span-to2 .ensures))
+
+pub past-value-spec : {M : Type 1} → statement M
+past-value-spec =
+    tie.close
+    (tie.spec
+    sees-requires
+    past-octet-requires
+    past-inside-requires
+    enum-known-p
+    enum-known-q
+    span-to-requires
+    past-octet-requires-2
+    returns
+    returns-2
+    past-token-requires
+    returns-3
+    span-to-requires-2
+    returns-4)

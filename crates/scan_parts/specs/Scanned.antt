@@ -1,0 +1,53 @@
+-- What each scan promises of its answer: what it passed, or that the header is malformed there, if the machine stood before it.
+use Prim.Native.Nat.{ℕ, suc}
+use mathlib.Core.Path.{_≡_}
+use mathlib.Core.List.{List}
+use Rattle.grammar.specs.Link.{Link}
+use Rattle.grammar.specs.Grammar.{rfc8288, At, In, Inside, Target}
+use Rattle.grammar.specs.Place.{MalformedAt}
+use Rattle.grammar.specs.Machine.{target, percent, semi, equals, quote, Open}
+use Rattle.octets.specs.Sets.{isHex}
+use Rattle.records.specs.Slots.{toParam}
+use Rattle.kinds.specs.declared.Place.{Place}
+use Rattle.kinds.specs.declared.Span.{Span}
+use Rattle.records.specs.declared.ParamRecord.{ParamRecord}
+use Rattle.cursor.specs.declared.Cursor.{Cursor}
+use Rattle.scan_parts.specs.declared.Scan.{Scan}
+use Rattle.scan_parts.specs.declared.Scan.the-variants.{Stuck, Past}
+use Rattle.scan_parts.specs.declared.value.ValueScan.{ValueScan}
+use Rattle.scan_parts.specs.declared.value.ValueScan.the-variants.{NoValue, Value}
+use Rattle.scan_parts.specs.declared.ParamScan.{ParamScan}
+use Rattle.scan_parts.specs.declared.ParamScan.the-variants.{NoParam, Param}
+use Rattle.scan_parts.specs.Stands.{Stands}
+use Rattle.scan_parts.specs.Parsed.{ParsedValue, Parsed}
+
+-- two hex digits at place a, behind `%`
+pub data TripleScanned (s : List ℕ) (a : ℕ) : Scan → Type 0 where
+  no-digit : {p : Place} → ((ls : List Link) (b : ℕ) → Stands s (percent ls b) a → MalformedAt rfc8288 s (p .0))
+      → TripleScanned s a (Stuck p)
+  digits : {c : Cursor} → c .at .0 ≡ suc (suc a) → In s isHex a → In s isHex (suc a) → TripleScanned s a (Past c)
+
+-- a target from place a, and the `>` behind it
+pub data TargetScanned (s : List ℕ) (a : ℕ) : Scan → Type 0 where
+  no-target : {p : Place} → ((ls : List Link) (b : ℕ) → Stands s (target ls b) a → MalformedAt rfc8288 s (p .0))
+      → TargetScanned s a (Stuck p)
+  closed : {c : Cursor} → Target s a (c .at .0) → At s (c .at .0) 62 → TargetScanned s a (Past c)
+
+-- the inside of a quoted string from place a, and the quote behind it
+pub data InsideScanned (s : List ℕ) (a : ℕ) : Scan → Type 0 where
+  no-quote : {p : Place} → ((o : Open) (n e v : ℕ) → Stands s (quote o n e v) a → MalformedAt rfc8288 s (p .0))
+      → InsideScanned s a (Stuck p)
+  unquoted : {c : Cursor} → Inside s a (c .at .0) → At s (c .at .0) 34 → InsideScanned s a (Past c)
+
+-- a value from place v on
+pub data ValueScanned (s : List ℕ) (v : ℕ) : ValueScan → Type 0 where
+  no-value : {p : Place} → ((o : Open) (n e : ℕ) → Stands s (equals o n e) v → MalformedAt rfc8288 s (p .0))
+      → ValueScanned s v (NoValue p)
+  a-value : {a : Span} {f : ℕ} {c : Cursor} → ParsedValue s v (a .from .0) (a .to .0) f (c .at .0)
+      → ValueScanned s v (Value a f c)
+
+-- a parameter from place a on
+pub data ParamScanned (s : List ℕ) (a : ℕ) : ParamScan → Type 0 where
+  no-param : {p : Place} → ((o : Open) → Stands s (semi o) a → MalformedAt rfc8288 s (p .0))
+      → ParamScanned s a (NoParam p)
+  a-param : {r : ParamRecord} {c : Cursor} → Parsed s a (toParam r) (c .at .0) → ParamScanned s a (Param r c)

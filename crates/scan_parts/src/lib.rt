@@ -1,0 +1,22 @@
+// The parts of a link, judged by the grammar octet by octet. Each scan hands back the cursor behind what it passed, or the place at
+// which the header is malformed.
+use cursor::Cursor;
+use kinds::Place;
+use records::ParamRecord;
+
+pub mod param;
+mod quoted;
+pub mod target;
+mod value;
+
+// Where a scan ended: the place at which the header is malformed, or the cursor past what was asked.
+pub enum Scan {
+    Stuck(Place),
+    Past(Cursor),
+}
+
+// A parameter's record, and the cursor behind it.
+pub enum ParamScan {
+    NoParam(Place),
+    Param(ParamRecord, Cursor),
+}

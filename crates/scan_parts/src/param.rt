@@ -1,0 +1,36 @@
+// A parameter, behind `;` and blanks.
+ghost use Rattle.scan_parts.specs.Stands.{Clear};
+ghost use Rattle.scan_parts.specs.Scanned.{ParamScanned};
+use crate::ParamScan;
+use crate::value::ValueScan;
+use crate::value::past_value;
+use cursor::Cursor;
+use records::ParamRecord;
+
+pub fn past_param(s: &[u8], from: Cursor) -> ParamScan
+    requires { ⌜ Clear (now s) (from .at .0) ⌝ }
+    ensures { λ r. ⌜ ParamScanned (now (s .entry)) (from .at .0) r ⌝ }
+{
+    let e = from.past_token(s);
+    if e.at.0 == from.at.0 {
+        let at = from.at;
+        return ParamScan::NoParam(at);
+    }
+    let name = from.span_to(e);
+    let k = e.past_blanks(s);
+    if !k.sees(s, b'=') {
+        let value = e.span_to(e);
+        return ParamScan::Param(
+            ParamRecord {
+                name,
+                value,
+                form: 0,
+            },
+            k,
+        );
+    }
+    match past_value(s, k.past_octet(s).past_blanks(s)) {
+        ValueScan::NoValue(p) => ParamScan::NoParam(p),
+        ValueScan::Value(value, form, c) => ParamScan::Param(ParamRecord { name, value, form }, c),
+    }
+}

@@ -1,0 +1,136 @@
+-- The links of a header passed so far, and what each return of its scan says.
+use Prim.Native.Nat.{ℕ, suc, _+_, _≤_, _<_}
+use native.Mathlib.Omega.{arith}
+use native.Mathlib.Numerals.{add-one}
+use mathlib.Core.Path.{_≡_, refl, sym, ap, subst, _∙_}
+use mathlib.Core.Bool.{Bool, true, false, not}
+use mathlib.Core.List.{List, [], _∷_, map, reverse}
+use lib.ListN.{length}
+use borrow.Author.Tests.{not-true}
+use Rattle.octets.specs.Sets.{isBlank}
+use Rattle.grammar.specs.Link.{Link}
+use Rattle.grammar.specs.Grammar.{At, Field, rfc8288}
+use Rattle.grammar.specs.Kept.{keptLink}
+use Rattle.grammar.specs.Records.{countParams}
+use Rattle.grammar.specs.Machine.{gap, target}
+use Rattle.kinds.specs.declared.Counts.{Counts}
+use Rattle.kinds.specs.declared.Place.{Place}
+use Rattle.cursor.specs.Passed.{Passed, Looked}
+use Rattle.cursor.specs.declared.Cursor.{Cursor}
+use Rattle.scan_parts.specs.Stands.{Stands}
+use Rattle.scan_parts.proofs.Standing.{stands-start, halts-at, finishes}
+use Rattle.scanner.specs.declared.link.LinkScan.{LinkScan}
+use Rattle.scanner.specs.declared.link.LinkScan.the-variants.{NoLink, Whole}
+use Rattle.scanner.specs.declared.HeaderScan.the-variants.{Malformed, Counted}
+use Rattle.scanner.specs.Linked.{WholeLink, LinkScanned, no-link, a-link, HeaderScanned, malformed-at, counted}
+use Rattle.scanner.proofs.ReadyBehindLink.{linkOf, link-forward}
+use Rattle.scanner.proofs.BetweenLinks.{
+  ordered,
+  ordered-length,
+  ordered-count,
+  gap-blanks,
+  gap-comma,
+  target-begins,
+  link-last,
+  link-comma,
+  kept-with,
+}
+
+-- at place i, between links, the links held have been read, the last first, and n counts them and their kept parameters
+pub record LinksSoFar (s : List ℕ) (i : ℕ) (n : Counts) : Type 0 where
+  pub links : List Link
+  pub stands : Stands s (gap links) i
+  pub link-count : n .links ≡ length links
+  pub param-count : n .params ≡ countParams (map (keptLink s) links)
+  pub few-links : n .links ≤ i
+  pub few-params : n .params ≤ i
+
+-- a header that ends with these links read has their counts
+counts : (s : List ℕ) (ls : List Link) {n : Counts} → Field rfc8288 s (reverse ls) → n .links ≡ length ls
+    → n .params ≡ countParams (map (keptLink s) ls) → HeaderScanned s (Counted n)
+counts s ls f x y =
+    counted
+    (record {
+      reading = ordered s ls;
+      reads = record { links = reverse ls; derived = f; kept = refl };
+      links = x ∙ sym (ordered-length s ls);
+      params = y ∙ sym (ordered-count s ls);
+    })
+
+-- with one link more, of which x parameters are kept
+abbrev pub oneLinkMore : Counts → ℕ → Counts
+oneLinkMore n x = record { links = n .links + 1; params = n .params + x }
+
+module _ {s : List ℕ} where
+  pub start : {i : ℕ} → i ≡ 0 → LinksSoFar s i (record { links = 0; params = 0 })
+  start e =
+      subst (λ (i : ℕ). LinksSoFar s i (record { links = 0; params = 0 })) (sym e)
+      (record {
+        links = [];
+        stands = stands-start s;
+        link-count = refl;
+        param-count = refl;
+        few-links = omega arith;
+        few-params = omega arith;
+      })
+
+  module _ {i j : ℕ} {n : Counts} (b : LinksSoFar s i n) (p : Passed isBlank s i j) where
+    here : Stands s (gap (b .links)) j
+    here = gap-blanks (b .stands) p
+
+    pub ended : length s ≤ j → HeaderScanned s (Counted n)
+    ended h = counts s (b .links) (finishes here h refl) (b .link-count) (b .param-count)
+
+    pub comma : {k : ℕ} → At s j 44 → k ≡ j + 1 → LinksSoFar s k n
+    comma q e =
+        record {
+          links = b .links;
+          stands = gap-comma here q e;
+          link-count = b .link-count;
+          param-count = b .param-count;
+          few-links = omega (arith, b .few-links, p .forward);
+          few-params = omega (arith, b .few-params, p .forward);
+        }
+
+    pub no-start : {x y : Bool} → j < length s → Looked s j 44 x → x ≡ false → Looked s j 60 y → not y ≡ true
+        → HeaderScanned s (Malformed (record { 0 = j }))
+    no-start {y = y} h l e k f = malformed-at (halts-at here refl h (rw (p .stops h, l .not e h, k .not (not-true y f) h)))
+
+    module _ {k : ℕ} {r : LinkScan} (q : At s j 60) (e : k ≡ j + 1) (l : LinkScanned s k r) where
+      begun : Stands s (target (b .links) k) k
+      begun = target-begins here q e
+
+      pub link-stuck : {p : Place} → r ≡ NoLink p → HeaderScanned s (Malformed p)
+      link-stuck z = go (subst (LinkScanned s k) z l)
+        where
+          go : {p : Place} → LinkScanned s k (NoLink p) → HeaderScanned s (Malformed p)
+          go (no-link f) = malformed-at (f (b .links) begun)
+
+      module _ {d : Cursor} {x : ℕ} (z : r ≡ Whole d x) where
+        pub whole : WholeLink s k (d .at .0) x
+        whole = go (subst (LinkScanned s k) z l)
+          where
+            go : {d : Cursor} {x : ℕ} → LinkScanned s k (Whole d x) → WholeLink s k (d .at .0) x
+            go (a-link w) = w
+
+        -- the counts stay below the place
+        pub whole-forward : (x + suc k ≤ d .at .0) × (d .at .0 ≤ length s)
+        whole-forward = link-forward whole
+
+        more-links : n .links + 1 ≡ suc (length (b .links))
+        more-links = add-one (n .links) ∙ ap suc (b .link-count)
+
+        pub link-ended : length s ≤ d .at .0 → HeaderScanned s (Counted (oneLinkMore n x))
+        link-ended h =
+            counts s (linkOf whole ∷ b .links) (link-last whole begun h) more-links (kept-with whole begun (b .param-count))
+
+        pub more : {v : ℕ} → d .at .0 < length s → v ≡ d .at .0 + 1 → LinksSoFar s v (oneLinkMore n x)
+        more h f =
+            record {
+              links = linkOf whole ∷ b .links;
+              stands = link-comma whole begun h f;
+              link-count = more-links;
+              param-count = kept-with whole begun (b .param-count);
+              few-links = omega (arith, b .few-links, p .forward, whole-forward .0);
+              few-params = omega (arith, b .few-params, p .forward, whole-forward .0);
+            }
