@@ -13,11 +13,12 @@ use lib.Seq.{drop-cons}
 use borrow.Author.Tests.{eq-eqb, ne-eqb, ltb-true, ltb-false}
 use Rattle.octets.specs.Fold.{fold, sameFolded}
 use Rattle.octets.proofs.Octets.{both}
+use Rattle.kinds.specs.declared.Place.{Place}
 use Rattle.values.specs.Rest.{rest, Meant}
-use Rattle.values.specs.Runs.{word, after, Begins, begins, RunEnd, agreesAt, MatchRun}
 use Rattle.values.proofs.Meant.{none-left}
-use Rattle.values.proofs.Words.{runs-word}
-use Rattle.values.proofs.Passing.{after-end, after-none, after-stop, after-step, word-space, word-other}
+use Rattle.runs.specs.Runs.{word, behind, AtRun, at-run, Skipped, agreesAt, MatchRun}
+use Rattle.runs.proofs.Words.{runs-word}
+use Rattle.runs.proofs.Skipping.{behind-end, behind-none, behind-stop, behind-step}
 
 -- ---- octet number i of q against the octet c, with what is behind each
 
@@ -53,17 +54,17 @@ pub record Matching (s : List ℕ) (e a : ℕ) (q : List ℕ) (i k : ℕ) : Type
   pub forward : a ≤ k
   pub inside : k ≤ e
   pub within : i ≤ length q
-  pub left : after (rest s e k) ≡ after (rest s e a)
+  pub left : behind false (rest s e k) ≡ behind false (rest s e a)
   pub alike : sameFolded (word (rest s e a)) q ≡ sameFolded (word (rest s e k)) (drop i q)
 
 -- SP begins no run
-no-begin : {v : List ℕ} (c : ℕ) (cs : List ℕ) → Begins v → v ≡ c ∷ cs → c ≡ 32 → ⊥
-no-begin c cs (begins {c = d} n) e q =
+no-run : {v : List ℕ} (c : ℕ) (cs : List ℕ) → AtRun v → v ≡ c ∷ cs → c ≡ 32 → ⊥
+no-run c cs (at-run {c = d} n) e q =
     let x : d ≡ c = cc in true≢false (sym (eq-eqb d 32 (x ∙ q)) ∙ n)
 
-module _ {s : List ℕ} {e a : ℕ} {q : List ℕ} {i k : ℕ} (w : Matching s e a q i k) (b : Begins (rest s e a)) where
+module _ {s : List ℕ} {e a : ℕ} {q : List ℕ} {i k : ℕ} (w : Matching s e a q i k) (b : AtRun (rest s e a)) where
   -- the run ended at place r with all that was compared alike
-  ended : (r : ℕ) → a < r → r ≤ e → rest s e r ≡ after (rest s e k) → word (rest s e k) ≡ []
+  ended : (r : Place) → a < r .0 → r .0 ≤ e → rest s e (r .0) ≡ behind false (rest s e k) → word (rest s e k) ≡ []
       → MatchRun s e a q (record { same = eqb i (length q); next = r })
   ended r h l n none =
       record {
@@ -74,25 +75,29 @@ module _ {s : List ℕ} {e a : ℕ} {q : List ℕ} {i k : ℕ} (w : Matching s e
       }
 
   -- at the end of the part
-  pub match-end : a < e → e ≤ k → MatchRun s e a q (record { same = eqb i (length q); next = k })
-  match-end h l =
-      ended k (omega (arith, w .inside)) (w .inside) (after-end s l) (rw (none-left s l))
+  pub match-end : {r : Place} → r .0 ≡ k → a < e → e ≤ k → MatchRun s e a q (record { same = eqb i (length q); next = r })
+  match-end {r} z h l =
+      ended r (omega (arith, w .inside)) (omega (arith, w .inside)) (rw z (behind-end false s l)) (rw (none-left s l))
 
   module _ {p : ℕ} (m : Meant s e k p) where
     -- at a lone backslash
-    pub match-none : a < e → e ≤ p → MatchRun s e a q (record { same = eqb i (length q); next = e })
-    match-none h l = ended e h (omega arith) (after-none m l) (rw (m .none l))
+    pub match-none : {r : Place} → r .0 ≡ e → a < e → e ≤ p → MatchRun s e a q (record { same = eqb i (length q); next = r })
+    match-none {r} z h l = ended r (omega arith) (omega arith) (rw z (behind-none false m l)) (rw (m .none l))
 
     -- at SP
-    pub match-stop : p < e → getD s p 0 ≡ 32 → MatchRun s e a q (record { same = eqb i (length q); next = k })
-    match-stop l z =
-        ended k
-        (⊎-elim (λ h. absurd (no-begin (getD s p 0) (rest s e (suc p)) b (rw h (m .octet l)) z)) (λ h. h) (eq-or-lt-of-le (w .forward)))
-        (w .inside) (after-stop m l z) (rw (m .octet l) (word-space (getD s p 0) (rest s e (suc p)) (eq-eqb _ _ z)))
+    pub match-stop : {r : Place} → r .0 ≡ k → p < e → getD s p 0 ≡ 32 → MatchRun s e a q (record { same = eqb i (length q); next = r })
+    match-stop {r} z l y =
+        ended r
+        (rw z
+        (⊎-elim (λ h. absurd (no-run (getD s p 0) (rest s e (suc p)) b (rw h (m .octet l)) y)) (λ h. h) (eq-or-lt-of-le (w .forward))))
+        (rw z (w .inside)) (rw z (behind-stop false m l (rw (eq-eqb _ _ y)))) (rw (m .octet l, eq-eqb _ _ y, word))
 
     module _ (l : p < e) (z : getD s p 0 ≡ 32 → ⊥) where
       now-word : word (rest s e k) ≡ getD s p 0 ∷ word (rest s e (suc p))
-      now-word = rw (m .octet l) (word-other (getD s p 0) (rest s e (suc p)) (ne-eqb _ _ z))
+      now-word = rw (m .octet l, ne-eqb _ _ z, word)
+
+      now-left : behind false (rest s e (p + 1)) ≡ behind false (rest s e a)
+      now-left = behind-step false m l (rw (ne-eqb _ _ z)) ∙ w .left
 
       pub match-more : agreesAt q i (getD s p 0) ≡ true → Matching s e a q (i + 1) (p + 1)
       match-more y =
@@ -100,16 +105,17 @@ module _ {s : List ℕ} {e a : ℕ} {q : List ℕ} {i k : ℕ} (w : Matching s e
             forward = omega (arith, w .forward, m .from);
             inside = omega arith;
             within = omega (arith, ltb-true i (length q) (both _ _ y .0));
-            left = after-step m l z ∙ w .left;
+            left = now-left;
             alike = rw (add-one p) (w .alike ∙ rw now-word (agreed q i (getD s p 0) (word (rest s e (suc p))) y));
           }
 
       -- at an octet that differs, with the end of the run at r
-      pub match-differs : {r : ℕ} → agreesAt q i (getD s p 0) ≡ false → RunEnd s e (p + 1) r → MatchRun s e a q (record { same = false; next = r })
+      pub match-differs : {r : Place} → agreesAt q i (getD s p 0) ≡ false → Skipped false s e (p + 1) (r .0)
+          → MatchRun s e a q (record { same = false; next = r })
       match-differs {r} y d =
           record {
             forward = omega (arith, w .forward, m .from, d .forward);
             inside = d .inside;
-            first = rw (d .left ∙ after-step m l z ∙ w .left) (runs-word b);
+            first = rw (d .left ∙ now-left) (runs-word b);
             matches = sym (w .alike ∙ rw now-word (differed q i (getD s p 0) (word (rest s e (suc p))) y));
           }

@@ -3,48 +3,41 @@ ghost use mathlib.Core.Path.{_≡_};
 ghost use mathlib.Core.Bool.{not};
 ghost use Prim.Native.Nat.{_≤_, _<_};
 ghost use lib.ListN.{length};
+ghost use Rattle.tables.specs.Good.{InText};
 ghost use Rattle.tables.specs.Relation.{runs};
 ghost use Rattle.values.specs.Rest.{rest};
-ghost use Rattle.values.specs.Runs.{isNone, Begins, NextRun, RunEnd, MatchRun, agreesAt};
-use crate::meaning::meant_at;
+ghost use Rattle.runs.specs.Runs.{isNone, AtRun, Skipped, NextRun, MatchRun, agreesAt};
 use folding::fold;
+use kinds::Place;
+use kinds::Span;
+use values::meant_at;
 
-// Where the next run begins, or e.
-pub fn next_run(s: &[u8], from: usize, e: usize) -> usize
-    requires { ⌜ (from ≤ e) × (e ≤ length (now s)) ⌝ }
-    ensures { λ r. ⌜ NextRun (now (s .entry)) e from r ⌝ }
+// Where the SPs end that are meant from place `from` on, or, where `spaces` is false, the octets other than SP.
+fn skip(s: &[u8], from: Place, e: Place, spaces: bool) -> Place
+    requires { ⌜ InText (now s) (from .0) (e .0) ⌝ }
+    ensures { λ r. ⌜ Skipped spaces (now (s .entry)) (e .0) (from .0) (r .0) ⌝ }
 {
     let mut k = from;
-    while k < e {
+    while k.0 < e.0 {
         let p = meant_at(s, k, e);
-        if p >= e {
+        if p.0 >= e.0 {
             return e;
         }
-        if s[p] != b' ' {
+        let at = p.0;
+        if (s[at] == b' ') != spaces {
             return k;
         }
-        k = p + 1;
+        k = p.next();
     }
     k
 }
 
-// Where the octets other than SP end, or e.
-pub fn run_end(s: &[u8], from: usize, e: usize) -> usize
-    requires { ⌜ (from ≤ e) × (e ≤ length (now s)) ⌝ }
-    ensures { λ r. ⌜ RunEnd (now (s .entry)) e from r ⌝ }
+// Where the next run begins, or e.
+pub fn next_run(s: &[u8], from: Place, e: Place) -> Place
+    requires { ⌜ InText (now s) (from .0) (e .0) ⌝ }
+    ensures { λ r. ⌜ NextRun (now (s .entry)) (e .0) (from .0) (r .0) ⌝ }
 {
-    let mut k = from;
-    while k < e {
-        let p = meant_at(s, k, e);
-        if p >= e {
-            return e;
-        }
-        if s[p] == b' ' {
-            return k;
-        }
-        k = p + 1;
-    }
-    k
+    skip(s, from, e, true)
 }
 
 // Whether octet number i of q is there and compares equal to c.
@@ -57,25 +50,26 @@ fn agrees(q: &[u8], i: usize, c: u8) -> bool
 // What comparing a run found: whether it is the same, folded, and the place behind it.
 pub struct RunMatch {
     pub same: bool,
-    pub next: usize,
+    pub next: Place,
 }
 
 // Compares the run that begins at `from` with q. The first octet that differs decides.
-pub fn match_run(s: &[u8], from: usize, e: usize, q: &[u8]) -> RunMatch
-    requires { ⌜ (from < e) × (e ≤ length (now s)) × Begins (rest (now s) e from) ⌝ }
-    ensures { λ r. ⌜ MatchRun (now (s .entry)) e from (now (q .entry)) r ⌝ }
+pub fn match_run(s: &[u8], from: Place, e: Place, q: &[u8]) -> RunMatch
+    requires { ⌜ (from .0 < e .0) × (e .0 ≤ length (now s)) × AtRun (rest (now s) (e .0) (from .0)) ⌝ }
+    ensures { λ r. ⌜ MatchRun (now (s .entry)) (e .0) (from .0) (now (q .entry)) r ⌝ }
 {
     let mut i = 0;
     let mut k = from;
-    while k < e {
+    while k.0 < e.0 {
         let p = meant_at(s, k, e);
-        if p >= e {
+        if p.0 >= e.0 {
             return RunMatch {
                 same: i == q.len(),
                 next: e,
             };
         }
-        let c = s[p];
+        let j = p.0;
+        let c = s[j];
         if c == b' ' {
             return RunMatch {
                 same: i == q.len(),
@@ -85,11 +79,11 @@ pub fn match_run(s: &[u8], from: usize, e: usize, q: &[u8]) -> RunMatch
         if !agrees(q, i, c) {
             return RunMatch {
                 same: false,
-                next: run_end(s, p + 1, e),
+                next: skip(s, p.next(), e, false),
             };
         }
         i += 1;
-        k = p + 1;
+        k = p.next();
     }
     RunMatch {
         same: i == q.len(),
@@ -97,10 +91,10 @@ pub fn match_run(s: &[u8], from: usize, e: usize, q: &[u8]) -> RunMatch
     }
 }
 
-// Whether the part from a to e means any run at all.
-pub fn has_runs(s: &[u8], a: usize, e: usize) -> bool
-    requires { ⌜ (a ≤ e) × (e ≤ length (now s)) ⌝ }
-    ensures { λ r. ⌜ r ≡ not (isNone (runs (rest (now (s .entry)) e a))) ⌝ }
+// Whether the part means any run at all.
+pub fn has_runs(s: &[u8], part: Span) -> bool
+    requires { ⌜ InText (now s) (part .from .0) (part .to .0) ⌝ }
+    ensures { λ r. ⌜ r ≡ not (isNone (runs (rest (now (s .entry)) (part .to .0) (part .from .0)))) ⌝ }
 {
-    next_run(s, a, e) < e
+    next_run(s, part.from, part.to).0 < part.to.0
 }

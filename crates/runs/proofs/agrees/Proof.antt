@@ -1,8 +1,8 @@
 -- The two octets are compared where the second is there.
 use borrow.Author.Needs.{needs}
 use borrow.Author.Tests.{lt-ltb, le-ltb}
-use Rattle.values.proofs.runs.agrees.Statement.{statement}
-use Rattle.values.proofs.runs.agrees.Tie as tie
+use Rattle.runs.proofs.agrees.Statement.{statement}
+use Rattle.runs.proofs.agrees.Tie as tie
 
 fold-requires : tie.Need-fold-requires
 fold-requires c κs = search needs

@@ -1,60 +1,14 @@
--- The loop skips SP, and stops at the first other octet or at the end.
-use Prim.Native.Nat.{_-_}
-use native.Mathlib.Omega.{arith}
-use mathlib.Core.Path.{refl}
-use Rattle.values.proofs.Skipping.{Skipping, skip, skip-stop, skip-none, skipped}
-use Rattle.values.proofs.runs.next_run.Statement.{statement}
-use Rattle.values.proofs.runs.next_run.Tie as tie
+-- Behind the SPs the next run begins.
+use borrow.Author.Needs.{needs}
+use Rattle.runs.proofs.Skipping.{next-begins}
+use Rattle.runs.proofs.next_run.Statement.{statement}
+use Rattle.runs.proofs.next_run.Tie as tie
 
-abbrev Inv-loop : tie.InvT-loop
-Inv-loop s from e k₀ k = Skipping s e from k
+skip-requires : tie.Need-skip-requires
+skip-requires c κs = search needs
 
-abbrev μ-loop : tie.MeasureT-loop
-μ-loop s from e k₀ k = e - k
-
-loop-holds : tie.Need-loop-holds Inv-loop μ-loop
-loop-holds c = record { forward = omega arith; inside = c .before .pre .0; same-runs = refl }
-
-meant-at-requires : tie.Need-meant-at-requires Inv-loop μ-loop
-meant-at-requires c κs = omega arith
-
-returns : tie.Need-returns Inv-loop μ-loop
-returns c = skip-none (c .before .before .before .loop .inv) (c .before .meant-at .ensures) (c .if1 .taken)
-
-shared-slice-read-if2 : tie.Need-shared-slice-read-if2 Inv-loop μ-loop
-shared-slice-read-if2 c = omega arith
-
-returns-2 : tie.Need-returns-2 Inv-loop μ-loop
-returns-2 c =
-    skip-stop (c .before .before .before .before .before .loop .inv) (c .before .before .before .meant-at .ensures)
-    (c .before .before .if1 .left) (c .if2 .taken)
-
-add-k : tie.Need-add-k Inv-loop μ-loop
-add-k c = omega arith
-
-loop-less : tie.Need-loop-less Inv-loop μ-loop
-loop-less c = omega arith
-
-loop-again : tie.Need-loop-again Inv-loop μ-loop
-loop-again c =
-    skip (c .before .before .before .before .before .loop .inv) (c .before .before .before .meant-at .ensures)
-    (c .before .before .if1 .left) (c .if2 .left)
-
-returns-3 : tie.Need-returns-3 Inv-loop μ-loop
-returns-3 c = skipped (c .before .loop .inv) (c .loop-test .left)
+returns : tie.Need-returns
+returns c = next-begins (c .skip .ensures)
 
 pub next-run-spec : {M : Type 1} → statement M
-next-run-spec =
-    tie.close
-    (tie.spec
-    Inv-loop
-    μ-loop
-    loop-holds
-    meant-at-requires
-    returns
-    shared-slice-read-if2
-    returns-2
-    add-k
-    loop-less
-    loop-again
-    returns-3)
+next-run-spec = tie.close (tie.spec skip-requires returns)

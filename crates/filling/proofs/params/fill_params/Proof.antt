@@ -1,0 +1,108 @@
+-- One parameter is written at each turn; the loop ends where no further one begins.
+use Prim.Native.Nat.{_-_}
+use native.Mathlib.Omega.{arith}
+use lib.ListN.{length}
+use borrow.Author.Needs.{needs}
+use borrow.Author.Tests.{not-false}
+use Rattle.scan_parts.proofs.ReadyBehindParam.{parsed-forward, parsed-name}
+use Rattle.filling.proofs.ParamsWritten.{
+  ParamsWritten,
+  written-begin,
+  filled-ends,
+  known-param,
+  keep-room,
+  written-on,
+  written-length,
+}
+use Rattle.filling.proofs.params.fill_params.Statement.{statement}
+use Rattle.filling.proofs.params.fill_params.Tie as tie
+
+abbrev Inv-loop : tie.InvT-loop
+Inv-loop s params₀ c₀ n₀ seen₀ params c n seen = ParamsWritten s (c₀ .at .0) (n₀ .0) params₀ (c .at .0) (n .0) seen params
+
+abbrev μ-loop : tie.MeasureT-loop
+μ-loop s params₀ c₀ n₀ seen₀ params c n seen = length s - c .at .0
+
+none-requires : tie.Need-none-requires Inv-loop μ-loop
+none-requires c κs = search needs
+
+loop-holds : tie.Need-loop-holds Inv-loop μ-loop
+loop-holds c = written-begin (c .before .before .before .pre) (c .before .before .before .pre .ready .stands .inside) (c .none .ensures)
+
+past-blanks-requires : tie.Need-past-blanks-requires Inv-loop μ-loop
+past-blanks-requires c κs = c .loop .inv .along .inside
+
+sees-requires : tie.Need-sees-requires Inv-loop μ-loop
+sees-requires c κs = search needs
+
+same-length : tie.Need-same-length Inv-loop μ-loop
+same-length c = written-length (c .before .before .before .before .before .before .before .pre) (c .before .before .before .loop .inv)
+
+returns : tie.Need-returns Inv-loop μ-loop
+returns c =
+    filled-ends (c .before .before .before .before .before .before .before .pre) (c .before .before .before .loop .inv) (c .before .before .past-blanks .ensures) (c .before .sees .ensures) (c .if1 .taken)
+
+past-octet-requires : tie.Need-past-octet-requires Inv-loop μ-loop
+past-octet-requires c κs = ((c .before .sees .ensures .yes) (not-false (c .before .sees .result) (c .if1 .left))) .inside
+
+past-blanks-requires-2 : tie.Need-past-blanks-requires-2 Inv-loop μ-loop
+past-blanks-requires-2 c κs = omega (arith, c .past-octet .ensures, ((c .before .before .sees .ensures .yes) (not-false (c .before .before .sees .result) (c .before .if1 .left))) .inside)
+
+read-param-requires : tie.Need-read-param-requires Inv-loop μ-loop
+read-param-requires c κs =
+    known-param (c .before .before .before .before .before .before .before .before .before .pre) (c .before .before .before .before .before .loop .inv) (c .before .before .before .before .past-blanks .ensures) ((c .before .before .before .sees .ensures .yes) (not-false (c .before .before .before .sees .result) (c .before .before .if1 .left))) (c .before .past-octet .ensures)
+    (c .past-blanks2 .ensures)
+
+code-requires : tie.Need-code-requires Inv-loop μ-loop
+code-requires c κs = parsed-name (c .before .before .read-param .ensures)
+
+has-requires : tie.Need-has-requires Inv-loop μ-loop
+has-requires c κs = search needs
+
+keep-requires : tie.Need-keep-requires Inv-loop μ-loop
+keep-requires c κs =
+    keep-room (c .before .before .before .before .before .before .before .before .before .before .before .before .before .before .before .pre) (c .before .before .before .before .before .before .before .before .before .before .before .loop .inv) (c .before .before .before .before .before .before .before .before .before .before .past-blanks .ensures) ((c .before .before .before .before .before .before .before .before .before .sees .ensures .yes) (not-false (c .before .before .before .before .before .before .before .before .before .sees .result) (c .before .before .before .before .before .before .before .before .if1 .left))) (c .before .before .before .before .before .before .before .past-octet .ensures)
+    (c .before .before .before .before .before .before .past-blanks2 .ensures) (c .before .before .before .before .before .read-param .ensures) (c .before .before .code .ensures) (c .has .ensures)
+
+with-requires : tie.Need-with-requires Inv-loop μ-loop
+with-requires c κs = search needs
+
+loop-less : tie.Need-loop-less Inv-loop μ-loop
+loop-less c =
+    omega (
+      arith,
+      parsed-forward (c .before .before .before .before .before .before .before .before .before .before .read-param .ensures) .0,
+      parsed-forward (c .before .before .before .before .before .before .before .before .before .before .read-param .ensures) .1,
+      c .before .before .before .before .before .before .before .before .before .before .before .before .before .before .before .past-blanks .ensures .forward,
+      c .before .before .before .before .before .before .before .before .before .before .before .before .past-octet .ensures,
+      c .before .before .before .before .before .before .before .before .before .before .before .past-blanks2 .ensures .forward,
+      ((c .before .before .before .before .before .before .before .before .before .before .before .before .before .before .sees .ensures .yes) (not-false (c .before .before .before .before .before .before .before .before .before .before .before .before .before .before .sees .result) (c .before .before .before .before .before .before .before .before .before .before .before .before .before .if1 .left))) .inside,
+    )
+
+loop-again : tie.Need-loop-again Inv-loop μ-loop
+loop-again c =
+    written-on (c .before .before .before .before .before .before .before .before .before .before .before .before .before .before .before .before .before .before .before .before .pre) (c .before .before .before .before .before .before .before .before .before .before .before .before .before .before .before .before .loop .inv) (c .before .before .before .before .before .before .before .before .before .before .before .before .before .before .before .past-blanks .ensures) ((c .before .before .before .before .before .before .before .before .before .before .before .before .before .before .sees .ensures .yes) (not-false (c .before .before .before .before .before .before .before .before .before .before .before .before .before .before .sees .result) (c .before .before .before .before .before .before .before .before .before .before .before .before .before .if1 .left))) (c .before .before .before .before .before .before .before .before .before .before .before .before .past-octet .ensures)
+    (c .before .before .before .before .before .before .before .before .before .before .before .past-blanks2 .ensures) (c .before .before .before .before .before .before .before .before .before .before .read-param .ensures) (c .before .before .before .before .before .before .before .code .ensures) (c .before .before .before .before .before .has .ensures)
+    (c .before .before .before .before .keep .ensures) (c .before .with .ensures)
+
+pub fill-params-spec : {M : Type 1} → statement M
+fill-params-spec =
+    tie.close
+    (tie.spec
+    Inv-loop
+    μ-loop
+    none-requires
+    loop-holds
+    past-blanks-requires
+    sees-requires
+    same-length
+    returns
+    past-octet-requires
+    past-blanks-requires-2
+    read-param-requires
+    code-requires
+    has-requires
+    keep-requires
+    with-requires
+    loop-less
+    loop-again)

@@ -1,0 +1,4 @@
+-- Laws of runs.
+pub mod Words
+pub mod Skipping
+pub mod Matching

@@ -1,0 +1,2 @@
+-- What the crate `runs` means by its words.
+pub mod Runs
