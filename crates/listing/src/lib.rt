@@ -10,7 +10,7 @@ ghost use Rattle.listing.specs.Held.{Held};
 use answers::read::ReadAnswer;
 use kinds::Counts;
 use kinds::LinkNumber;
-use lines::Line;
+use columns::Line;
 use records::LinkRecord;
 
 // Hands a line out.
@@ -40,7 +40,7 @@ fn put_params(params: &[usize], l: LinkRecord)
 fn put_table(links: &[usize], params: &[usize], counts: Counts)
     requires { ⌜ Held (now links) (now params) (counts .links) (counts .params) ⌝ }
 {
-    put(lines::counts_line(counts.links, counts.params));
+    put(lines::counts_line(counts));
     let mut i = LinkNumber::first();
     while i.0 < counts.links {
         let l = records::link_at(links, i);

@@ -9,25 +9,26 @@ use Rattle.grammar.specs.Records.{linkRoom, paramRoom}
 use Rattle.tables.specs.Table.{firstOf, countOf}
 use Rattle.tables.specs.Good.{Follows}
 use Rattle.tables.proofs.FromReading.{read-good}
-use Rattle.kinds.specs.declared.LinkRecord.{LinkRecord}
-use Rattle.kinds.specs.Slots.{IsLink}
+use Rattle.records.specs.declared.LinkRecord.{LinkRecord}
+use Rattle.records.specs.Slots.{IsLink}
 use Rattle.outcomes.specs.Read.{ReadOut, Read, too-long, not-derived, no-link-room, no-param-room, reads}
-use Rattle.reader.specs.declared.ReadAnswer.{ReadAnswer}
-use Rattle.reader.specs.declared.ReadAnswer.the-variants.{Done}
-use Rattle.reader.specs.Answer.{readOut}
+use Rattle.kinds.specs.declared.Counts.{Counts}
+use Rattle.answers.specs.Read.{readNumbers, readOut}
+use Rattle.answers.specs.declared.read.ReadAnswer.{ReadAnswer}
+use Rattle.answers.specs.declared.read.ReadAnswer.the-variants.{Done}
 use Rattle.listing.specs.Held.{Held}
 
 -- what is left of a table from link i on: `left` links, whose parameters begin at number `from`
-pub record Left (L P : List ℕ) (n m i : ℕ) : Type 0 where
+pub record TableLeft (L P : List ℕ) (n m i : ℕ) : Type 0 where
   pub held : Held L P n m
   pub left : ℕ
   pub from : ℕ
   pub number : i + left ≡ n
   pub follows : Follows L i left from m
 
-pub begin : {L P : List ℕ} {n m i : ℕ} → Held L P n m → i ≡ 0 → Left L P n m i
+pub begin : {L P : List ℕ} {n m i : ℕ} → Held L P n m → i ≡ 0 → TableLeft L P n m i
 begin {L} {P} {n} {m} h e =
-    subst (Left L P n m) (sym e) (record { held = h; left = n; from = 0; number = omega arith; follows = h .follows })
+    subst (TableLeft L P n m) (sym e) (record { held = h; left = n; from = 0; number = omega arith; follows = h .follows })
 
 -- the parameters of the links that are left end at the last
 ends : (L : List ℕ) (i n : ℕ) {from m : ℕ} → Follows L i n from m → from ≤ m
@@ -36,8 +37,8 @@ ends L i (suc n) f = omega (arith, ends L (suc i) n (f .1))
 
 -- link i's parameters stand in the slots, and what is left behind it
 record Passed (L P : List ℕ) (n m i : ℕ) : Type 0 where
-  inside : 5 * (firstOf L i + countOf L i) ≤ length P
-  behind : Left L P n m (suc i)
+  inside : firstOf L i + countOf L i ≤ paramRoom P
+  behind : TableLeft L P n m (suc i)
 
 module _ {L P : List ℕ} {n m i : ℕ} where
   pass : (k from : ℕ) → Held L P n m → i + k ≡ n → Follows L i k from m → i < n → Passed L P n m i
@@ -48,17 +49,17 @@ module _ {L P : List ℕ} {n m i : ℕ} where
         behind = record { held = h; left = k; from = from + countOf L i; number = omega (arith, e); follows = f .1 };
       }
 
-  passed : Left L P n m i → i < n → Passed L P n m i
+  passed : TableLeft L P n m i → i < n → Passed L P n m i
   passed o = pass (o .left) (o .from) (o .held) (o .number) (o .follows)
 
-  pub link-room : Left L P n m i → i < n → 4 * i + 4 ≤ length L
+  pub link-room : TableLeft L P n m i → i < n → i < linkRoom L
   link-room o lt = omega (arith, o .held .link-room, lt)
 
-  pub params-inside : {r : LinkRecord} → Left L P n m i → i < n → IsLink L i r → 5 * (r .first .0 + r .count) ≤ length P
+  pub params-inside : {r : LinkRecord} → TableLeft L P n m i → i < n → IsLink L i r → r .first .0 + r .count ≤ paramRoom P
   params-inside o lt is = omega (arith, passed o lt .inside, is .first, is .count)
 
-  pub on : {j : ℕ} → Left L P n m i → i < n → j ≡ i + 1 → Left L P n m j
-  on {j} o lt e = subst (Left L P n m) (sym (e ∙ add-one i)) (passed o lt .behind)
+  pub on : {j : ℕ} → TableLeft L P n m i → i < n → j ≡ i + 1 → TableLeft L P n m j
+  on {j} o lt e = subst (TableLeft L P n m) (sym (e ∙ add-one i)) (passed o lt .behind)
 
 -- what reading answers with number 0 is held
 read-held : {h L P : List ℕ} {o : ReadOut} → Read h L P o → o .number ≡ 0 → Held (o .linkSlots) (o .paramSlots) (o .links) (o .params)
@@ -70,9 +71,8 @@ read-held (reads a b c d) e =
     let g = read-good _ _ _ _ b .good in
     record { link-room = g .link-room; param-room = g .param-room; follows = g .follows }
 
--- reading's answer, known to be one of its cases
-pub handed-on : {h L P : List ℕ} {r x : ReadAnswer} (L′ P′ : List ℕ) → Read h L P (readOut r L′ P′) → r ≡ x → Read h L P (readOut x L′ P′)
-handed-on {h} {L} {P} L′ P′ d e = subst (λ (y : ReadAnswer). Read h L P (readOut y L′ P′)) e d
-
-pub done-held : {h L P L′ P′ : List ℕ} {r : ReadAnswer} {n m : ℕ} → Read h L P (readOut r L′ P′) → r ≡ Done n m → Held L′ P′ n m
-done-held {L′ = L′} {P′} d e = read-held (handed-on L′ P′ d e) refl
+-- reading's answer, known to be its table's counts
+pub done-held : {h L P L′ P′ : List ℕ} {r : ReadAnswer} {n : Counts} → Read h L P (readOut (readNumbers r) L′ P′) → r ≡ Done n
+    → Held L′ P′ (n .links) (n .params)
+done-held {h} {L} {P} {L′} {P′} d e =
+    read-held (subst (λ (y : ReadAnswer). Read h L P (readOut (readNumbers y) L′ P′)) e d) refl
