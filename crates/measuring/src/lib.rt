@@ -48,7 +48,8 @@ fn parting_len(first: bool) -> usize
 // The length of the whole form: of each link what parts it from the one before, its target in `<` and `>`, and its parameters.
 pub fn form_len(text: &[u8], links: &[usize], params: &[usize], counts: Counts) -> usize
     requires { ⌜ Usable (tableOf (now text) (now links) (now params) (counts .links) (counts .params)) ⌝ }
-    ensures { λ r. ⌜ Measured (length (writtenForm (tableOf (now (text .entry)) (now (links .entry)) (now (params .entry)) (counts .links) (counts .params)))) r ⌝ }
+    ensures { λ r. ⌜ Measured
+        (length (writtenForm (tableOf (now (text .entry)) (now (links .entry)) (now (params .entry)) (counts .links) (counts .params)))) r ⌝ }
 {
     let mut n = 0;
     let mut i = LinkNumber::first();

@@ -27,7 +27,8 @@ fn put_quoted(out: &mut [u8], at: OutPlace, c: u8) -> OutPlace
 pub fn put_escaped(s: &[u8], part: Span, out: &mut [u8], at: OutPlace) -> OutPlace
     requires { ⌜ InText (now s) (part .from .0) (part .to .0) ⌝ }
     requires { ⌜ at .0 + length (escape (rest (now s) (part .to .0) (part .from .0))) ≤ length (now out) ⌝ }
-    ensures { λ r. ⌜ Put (now (out .entry)) (now (out .exit)) (at .0) (r .0) (escape (rest (now (s .entry)) (part .to .0) (part .from .0))) ⌝ }
+    ensures { λ r. ⌜ Put (now (out .entry)) (now (out .exit)) (at .0) (r .0)
+        (escape (rest (now (s .entry)) (part .to .0) (part .from .0))) ⌝ }
 {
     let e = part.to;
     let mut to = at;

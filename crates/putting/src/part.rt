@@ -23,7 +23,8 @@ fn spelt(folding: bool, c: u8) -> u8
 fn put_spelt(s: &[u8], part: Span, folding: bool, out: &mut [u8], at: OutPlace) -> OutPlace
     requires { ⌜ InText (now s) (part .from .0) (part .to .0) ⌝ }
     requires { ⌜ at .0 + length (slice (part .from .0) (part .to .0) (now s)) ≤ length (now out) ⌝ }
-    ensures { λ r. ⌜ Put (now (out .entry)) (now (out .exit)) (at .0) (r .0) (map (spelt folding) (slice (part .from .0) (part .to .0) (now (s .entry)))) ⌝ }
+    ensures { λ r. ⌜ Put (now (out .entry)) (now (out .exit)) (at .0) (r .0)
+        (map (spelt folding) (slice (part .from .0) (part .to .0) (now (s .entry)))) ⌝ }
 {
     let e = part.to;
     let mut to = at;
@@ -51,7 +52,8 @@ pub fn put_part(s: &[u8], part: Span, out: &mut [u8], at: OutPlace) -> OutPlace
 pub fn put_folded(s: &[u8], part: Span, out: &mut [u8], at: OutPlace) -> OutPlace
     requires { ⌜ InText (now s) (part .from .0) (part .to .0) ⌝ }
     requires { ⌜ at .0 + length (folded (slice (part .from .0) (part .to .0) (now s))) ≤ length (now out) ⌝ }
-    ensures { λ r. ⌜ Put (now (out .entry)) (now (out .exit)) (at .0) (r .0) (folded (slice (part .from .0) (part .to .0) (now (s .entry)))) ⌝ }
+    ensures { λ r. ⌜ Put (now (out .entry)) (now (out .exit)) (at .0) (r .0)
+        (folded (slice (part .from .0) (part .to .0) (now (s .entry)))) ⌝ }
 {
     put_spelt(s, part, true, out, at)
 }

@@ -35,20 +35,24 @@ parting-len-requires c κs = search needs
 len-requires : tie.Need-len-requires Inv-loop μ-loop
 len-requires c κs =
     let start = c .before .before .before .before .before .before .before .before .before .before .before .before in
-    target-span (start .pre .good) (c .before .before .before .before .if1 .taken) (c .before .before .link-at .ensures) .ordered
+    let if1′ = c .before .before .before .before .if1 in
+    target-span (start .pre .good) (if1′ .taken) (c .before .before .link-at .ensures) .ordered
 
 add-target : tie.Need-add-target Inv-loop μ-loop
 add-target c =
     let loop′ = c .before .before .before .before .before .before .before .before .loop in
     let start = c .before .before .before .before .before .before .before .before .before .before .before .before .before in
+    let if1′ = c .before .before .before .before .before .if1 in
+    let link-at′ = c .before .before .before .link-at in
     omega (
       arith,
-      link-added (loop′ .inv) (start .pre) (c .before .before .before .before .before .if1 .taken) (c .before .before .before .link-at .ensures) (c .before .parting-len .ensures) (c .len .ensures),
+      link-added (loop′ .inv) (start .pre) (if1′ .taken) (link-at′ .ensures) (c .before .parting-len .ensures) (c .len .ensures),
     )
 
 plus-requires : tie.Need-plus-requires Inv-loop μ-loop
 plus-requires c κs =
-    let start = c .before .before .before .before .before .before .before .before .before .before .before .before .before .before in
+    let earlier = c .before .before .before .before .before .before .before .before .before .before in
+    let start = earlier .before .before .before .before in
     let if1′ = c .before .before .before .before .before .before .if1 in
     let link-at′ = c .before .before .before .before .link-at in
     omega (
@@ -61,31 +65,44 @@ plus-requires c κs =
 
 add-params-len : tie.Need-add-params-len Inv-loop μ-loop
 add-params-len c =
+    let earlier = c .before .before .before .before .before .before .before .before .before .before in
     let loop′ = c .before .before .before .before .before .before .before .before .before .before .loop in
-    let start = c .before .before .before .before .before .before .before .before .before .before .before .before .before .before .before in
+    let start = earlier .before .before .before .before .before in
     let if1′ = c .before .before .before .before .before .before .before .if1 in
+    let link-at′ = c .before .before .before .before .before .link-at in
+    let parting-len′ = c .before .before .before .parting-len in
     let if2′ = c .before .before .before .before .before .before .if2 in
-    let few = link-added (loop′ .inv) (start .pre) (if1′ .taken) (c .before .before .before .before .before .link-at .ensures) (c .before .before .before .parting-len .ensures) (c .before .before .len .ensures) in
+    let few =
+    link-added (loop′ .inv) (start .pre) (if1′ .taken) (link-at′ .ensures) (parting-len′ .ensures) (c .before .before .len .ensures)
+    in
     omega (arith, few, leb-true (loop′ .n) limit (if2′ .taken))
 
 add-params-len-2 : tie.Need-add-params-len-2 Inv-loop μ-loop
 add-params-len-2 c =
+    let earlier = c .before .before .before .before .before .before .before .before .before .before in
     let loop′ = c .before .before .before .before .before .before .before .before .before .before .loop in
-    let start = c .before .before .before .before .before .before .before .before .before .before .before .before .before .before .before in
+    let start = earlier .before .before .before .before .before in
     let if1′ = c .before .before .before .before .before .before .before .if1 in
+    let link-at′ = c .before .before .before .before .before .link-at in
+    let parting-len′ = c .before .before .before .parting-len in
     let if2′ = c .before .before .before .before .before .before .if2 in
-    let few = link-added (loop′ .inv) (start .pre) (if1′ .taken) (c .before .before .before .before .before .link-at .ensures) (c .before .before .before .parting-len .ensures) (c .before .before .len .ensures) in
+    let few =
+    link-added (loop′ .inv) (start .pre) (if1′ .taken) (link-at′ .ensures) (parting-len′ .ensures) (c .before .before .len .ensures)
+    in
     omega (arith, few, leb-true (loop′ .n) limit (if2′ .taken))
 
 params-len-requires : tie.Need-params-len-requires Inv-loop μ-loop
 params-len-requires c κs =
-    let start = c .before .before .before .before .before .before .before .before .before .before .before .before .before .before .before in
+    let earlier = c .before .before .before .before .before .before .before .before .before .before in
+    let start = earlier .before .before .before .before .before in
     let if1′ = c .before .before .before .before .before .before .before .if1 in
-    (rw (c .plus .ensures) (good-run (start .pre .good) (if1′ .taken) (c .before .before .before .before .before .link-at .ensures)), start .pre .short)
+    let link-at′ = c .before .before .before .before .before .link-at in
+    (rw (c .plus .ensures) (good-run (start .pre .good) (if1′ .taken) (link-at′ .ensures)), start .pre .short)
 
 next-requires : tie.Need-next-requires Inv-loop μ-loop
 next-requires c κs =
-    let start = c .before .before .before .before .before .before .before .before .before .before .before .before .before .before .before .before in
+    let earlier = c .before .before .before .before .before .before .before .before .before .before in
+    let start = earlier .before .before .before .before .before .before in
     let if1′ = c .before .before .before .before .before .before .before .before .if1 in
     omega (arith, link-slots (start .pre .good) (if1′ .taken), start .good .1 .0 .0)
 
@@ -96,15 +113,19 @@ loop-less c =
 
 loop-again : tie.Need-loop-again Inv-loop μ-loop
 loop-again c =
+    let earlier = c .before .before .before .before .before .before .before .before .before .before in
     let loop′ = c .before .before .before .before .before .before .before .before .before .before .before .before .loop in
     let if2′ = c .before .before .before .before .before .before .before .before .if2 in
-    let start = c .before .before .before .before .before .before .before .before .before .before .before .before .before .before .before .before .before in
+    let start = earlier .before .before .before .before .before .before .before in
     let if1′ = c .before .before .before .before .before .before .before .before .before .if1 in
     let link-at′ = c .before .before .before .before .before .before .before .link-at in
+    let parting-len′ = c .before .before .before .before .before .parting-len in
+    let len′ = c .before .before .before .before .len in
     let within = leb-true (loop′ .n) limit (if2′ .taken) in
     let measured = rw (c .before .before .plus .ensures) at (c .before .params-len .ensures) in
     rw (c .next .ensures)
-    (form-more (loop′ .inv) (start .pre) (if1′ .taken) (link-at′ .ensures) (c .before .before .before .before .before .parting-len .ensures) (c .before .before .before .before .len .ensures) within measured)
+    (form-more (loop′ .inv) (start .pre) (if1′ .taken) (link-at′ .ensures) (parting-len′ .ensures) (len′ .ensures)
+    within measured)
 
 returns : tie.Need-returns Inv-loop μ-loop
 returns c =

@@ -26,28 +26,41 @@ param-at-requires : tie.Need-param-at-requires Inv-loop μ-loop
 param-at-requires c κs = omega (arith, c .before .before .before .before .loop .inv .run .room, c .before .if1 .taken)
 
 len-requires : tie.Need-len-requires Inv-loop μ-loop
-len-requires c κs = good-here (c .before .before .before .before .before .loop .inv) (c .before .before .if1 .taken) (c .param-at .ensures) .name-span .ordered
+len-requires c κs =
+    let loop′ = c .before .before .before .before .before .loop in
+    good-here (loop′ .inv) (c .before .before .if1 .taken) (c .param-at .ensures) .name-span .ordered
 
 value-len-requires : tie.Need-value-len-requires Inv-loop μ-loop
 value-len-requires c κs =
     let loop′ = c .before .before .before .before .before .before .loop in
-    (good-here (loop′ .inv) (c .before .before .before .if1 .taken) (c .before .param-at .ensures), loop′ .inv .short)
+    let if1′ = c .before .before .before .if1 in
+    (good-here (loop′ .inv) (if1′ .taken) (c .before .param-at .ensures), loop′ .inv .short)
 
 add-n : tie.Need-add-n Inv-loop μ-loop
 add-n c =
     let loop′ = c .before .before .before .before .before .before .before .loop in
-    omega (arith, added (loop′ .inv) (c .before .before .before .before .if1 .taken) (c .before .before .param-at .ensures) (c .before .len .ensures) (c .value-len .ensures))
+    let if1′ = c .before .before .before .before .if1 in
+    let param-at′ = c .before .before .param-at in
+    let len′ = c .before .len in
+    omega (arith, added (loop′ .inv) (if1′ .taken) (param-at′ .ensures) (len′ .ensures) (c .value-len .ensures))
 
 add-n-2 : tie.Need-add-n-2 Inv-loop μ-loop
 add-n-2 c =
     let loop′ = c .before .before .before .before .before .before .before .loop in
-    omega (arith, added (loop′ .inv) (c .before .before .before .before .if1 .taken) (c .before .before .param-at .ensures) (c .before .len .ensures) (c .value-len .ensures))
+    let if1′ = c .before .before .before .before .if1 in
+    let param-at′ = c .before .before .param-at in
+    let len′ = c .before .len in
+    omega (arith, added (loop′ .inv) (if1′ .taken) (param-at′ .ensures) (len′ .ensures) (c .value-len .ensures))
 
 add-n-3 : tie.Need-add-n-3 Inv-loop μ-loop
 add-n-3 c =
     let loop′ = c .before .before .before .before .before .before .before .loop in
-    let few = added (loop′ .inv) (c .before .before .before .before .if1 .taken) (c .before .before .param-at .ensures) (c .before .len .ensures) (c .value-len .ensures) in
-    omega (arith, few, leb-true (loop′ .n) limit (c .before .before .before .if2 .taken))
+    let if1′ = c .before .before .before .before .if1 in
+    let param-at′ = c .before .before .param-at in
+    let len′ = c .before .len in
+    let if2′ = c .before .before .before .if2 in
+    let few = added (loop′ .inv) (if1′ .taken) (param-at′ .ensures) (len′ .ensures) (c .value-len .ensures) in
+    omega (arith, few, leb-true (loop′ .n) limit (if2′ .taken))
 
 next-requires : tie.Need-next-requires Inv-loop μ-loop
 next-requires c κs =
@@ -61,8 +74,10 @@ loop-less c = omega (arith, c .next .ensures, c .before .before .before .before 
 loop-again : tie.Need-loop-again Inv-loop μ-loop
 loop-again c =
     let loop′ = c .before .before .before .before .before .before .before .before .loop in
+    let if1′ = c .before .before .before .before .before .if1 in
+    let param-at′ = c .before .before .before .param-at in
     rw (c .next .ensures)
-    (measure-more (loop′ .inv) (c .before .before .before .before .before .if1 .taken) (c .before .before .before .param-at .ensures) (c .before .before .len .ensures) (c .before .value-len .ensures))
+    (measure-more (loop′ .inv) (if1′ .taken) (param-at′ .ensures) (c .before .before .len .ensures) (c .before .value-len .ensures))
 
 returns : tie.Need-returns Inv-loop μ-loop
 returns c =

@@ -16,7 +16,8 @@ abbrev μ-loop : tie.MeasureT-loop
 
 loop-holds : tie.Need-loop-holds Inv-loop μ-loop
 loop-holds c =
-    record { inside = c .before .before .before .pre .ordered; forward = omega arith; tokens = refl; some-octet = λ l. absurd (omega arith) }
+    let start = c .before .before .before in
+    record { inside = start .pre .ordered; forward = omega arith; tokens = refl; some-octet = λ l. absurd (omega arith) }
 
 meant-at-requires : tie.Need-meant-at-requires Inv-loop μ-loop
 meant-at-requires c κs =
@@ -40,7 +41,8 @@ returns-2 : tie.Need-returns-2 Inv-loop μ-loop
 returns-2 c =
     let loop′ = c .before .before .before .before .before .before .before .before .before .before .loop in
     let meant-at′ = c .before .before .before .before .before .before .meant-at in
-    tokens-broken (loop′ .inv) (meant-at′ .ensures) (c .before .before .before .if2 .left) (sym (c .before .is-token .ensures) ∙ not-true _ (c .if3 .taken))
+    let if2′ = c .before .before .before .if2 in
+    tokens-broken (loop′ .inv) (meant-at′ .ensures) (if2′ .left) (sym (c .before .is-token .ensures) ∙ not-true _ (c .if3 .taken))
 
 next-requires : tie.Need-next-requires Inv-loop μ-loop
 next-requires c κs =
@@ -57,8 +59,11 @@ loop-again : tie.Need-loop-again Inv-loop μ-loop
 loop-again c =
     let loop′ = c .before .before .before .before .before .before .before .before .before .before .before .loop in
     let meant-at′ = c .before .before .before .before .before .before .before .meant-at in
+    let if2′ = c .before .before .before .before .if2 in
+    let is-token′ = c .before .before .is-token in
+    let if3′ = c .before .if3 in
     rw (c .next .ensures)
-    (tokens-more (loop′ .inv) (meant-at′ .ensures) (c .before .before .before .before .if2 .left) (sym (c .before .before .is-token .ensures) ∙ not-false _ (c .before .if3 .left)))
+    (tokens-more (loop′ .inv) (meant-at′ .ensures) (if2′ .left) (sym (is-token′ .ensures) ∙ not-false _ (if3′ .left)))
 
 returns-3 : tie.Need-returns-3 Inv-loop μ-loop
 returns-3 c = tokens-end (c .before .before .before .before .before .loop .inv) (c .before .before .if1 .left)

@@ -16,7 +16,9 @@ abbrev μ-loop : tie.MeasureT-loop
 μ-loop s e n₀ tokens₀ k₀ n tokens k = e .0 - k .0
 
 loop-holds : tie.Need-loop-holds Inv-loop μ-loop
-loop-holds c = record { inside = c .before .before .before .pre .0 .ordered; bound = omega arith; octets = omega arith; all-tokens = refl }
+loop-holds c =
+    let start = c .before .before .before in
+    record { inside = start .pre .0 .ordered; bound = omega arith; octets = omega arith; all-tokens = refl }
 
 meant-at-requires : tie.Need-meant-at-requires Inv-loop μ-loop
 meant-at-requires c κs =
@@ -47,7 +49,14 @@ add-n c =
     let start = c .before .before .before .before .before .before .before .before .before .before .before .before .before in
     let loop′ = c .before .before .before .before .before .before .before .before .before .loop in
     let octet = getD (start .args .s .now) (c .before .before .before .before .before .meant-at .result .0) 0 in
-    omega (arith, at-most-two octet (c .escaped-len .ensures), loop′ .inv .bound, loop′ .inv .inside, start .pre .0 .inside, start .pre .1)
+    omega (
+      arith,
+      at-most-two octet (c .escaped-len .ensures),
+      loop′ .inv .bound,
+      loop′ .inv .inside,
+      start .pre .0 .inside,
+      start .pre .1,
+    )
 
 is-token-requires : tie.Need-is-token-requires Inv-loop μ-loop
 is-token-requires c κs = search needs
@@ -67,8 +76,9 @@ loop-again : tie.Need-loop-again Inv-loop μ-loop
 loop-again c =
     let loop′ = c .before .before .before .before .before .before .before .before .before .before .before .loop in
     let meant-at′ = c .before .before .before .before .before .before .before .meant-at in
+    let if2′ = c .before .before .before .before .if2 in
     rw (c .next .ensures)
-    (count-more (loop′ .inv) (meant-at′ .ensures) (c .before .before .before .before .if2 .left) (c .before .before .escaped-len .ensures) (c .before .is-token .ensures))
+    (count-more (loop′ .inv) (meant-at′ .ensures) (if2′ .left) (c .before .before .escaped-len .ensures) (c .before .is-token .ensures))
 
 len-for-requires-2 : tie.Need-len-for-requires-2 Inv-loop μ-loop
 len-for-requires-2 c κs =

@@ -5,37 +5,38 @@ use mathlib.Core.Path.{sym}
 use mathlib.Core.List.{_++_}
 use lib.Dec.{eqb}
 use Rattle.outcomes.specs.Write.{writtenForm}
-use Rattle.table_check.specs.Parts.{linkOf}
+use Rattle.records.specs.Slots.{toLink}
 use Rattle.tables.specs.Table.{tableOf}
-use Rattle.values.proofs.InGood.{link-slots}
-use Rattle.writer.specs.Forms.{parting, linkForm}
-use Rattle.writer.proofs.Putting.{begin, several, room, onto}
-use Rattle.writer.proofs.Going.{Going, next, ended}
-use Rattle.writer.proofs.Forming.{target-span, good-run}
-use Rattle.writer.proofs.Left.{linksLeft, links-next, links-end, whole-form}
+use Rattle.tables.proofs.InGood.{link-slots}
+use Rattle.shape.specs.Forms.{parting, linkForm, linksLeft}
+use Rattle.shape.proofs.LeftToWrite.{links-next, links-end, whole-form}
+use Rattle.shape.proofs.GoodRecords.{target-span, good-run}
+use Rattle.kinds.proofs.Putting.{begin, several, room, onto}
+use Rattle.putting.proofs.PutUpTo.{PutUpTo, next, ended}
 use borrow.Author.Needs.{needs}
-use Rattle.writer.proofs.links.put_links.Statement.{statement}
-use Rattle.writer.proofs.links.put_links.Tie as tie
+use Rattle.forms.proofs.links.put_links.Statement.{statement}
+use Rattle.forms.proofs.links.put_links.Tie as tie
 
 abbrev Inv-loop : tie.InvT-loop
-Inv-loop text links params link-count param-count out₀ at₀ i₀ out at i =
-    Going (linksLeft text links params link-count) link-count out₀ 0 (writtenForm (tableOf text links params link-count param-count))
-    out at (i .0)
+Inv-loop text links params counts out₀ at₀ i₀ out at i =
+    PutUpTo (linksLeft text links params (counts .links)) (counts .links) out₀ 0
+    (writtenForm (tableOf text links params (counts .links) (counts .params))) out (at .0) (i .0)
 
 abbrev μ-loop : tie.MeasureT-loop
-μ-loop text links params link-count param-count out₀ at₀ i₀ out at i = link-count - i .0
+μ-loop text links params counts out₀ at₀ i₀ out at i = counts .links - i .0
+
+start-requires : tie.Need-start-requires Inv-loop μ-loop
+start-requires c κs = search needs
 
 first-requires : tie.Need-first-requires Inv-loop μ-loop
 first-requires c κs = search needs
 
 loop-holds : tie.Need-loop-holds Inv-loop μ-loop
 loop-holds c =
-    let start = c .before .before .before .before .before in
-    let t =
-    tableOf (start .args .text .now) (start .args .links .now) (start .args .params .now) (start .args .link-count)
-    (start .args .param-count)
-    in
-    rw (c .first .ensures)
+    let start = c .before .before .before .before .before .before in
+    let n = start .args .counts in
+    let t = tableOf (start .args .text .now) (start .args .links .now) (start .args .params .now) (n .links) (n .params) in
+    rw (c .first .ensures, c .before .start .ensures)
     (record {
       inside = omega arith;
       put = onto (sym (whole-form t)) (begin (start .args .out .now) 0 (writtenForm t) (omega (arith, start .pre .1)));
@@ -43,61 +44,47 @@ loop-holds c =
 
 link-at-requires : tie.Need-link-at-requires Inv-loop μ-loop
 link-at-requires c κs =
-    let start = c .before .before .before .before .before .before .before .before in
+    let start = c .before .before .before .before .before .before .before .before .before .before in
     link-slots (start .pre .0 .good) (c .if1 .taken)
 
 put-parting-requires : tie.Need-put-parting-requires Inv-loop μ-loop
 put-parting-requires c κs =
-    let start = c .before .before .before .before .before .before .before .before .before .before .before in
-    let loop′ = c .before .before .before .before .before .loop in
-    let if1′ = c .before .before .before .if1 in
+    let start = c .before .before .before .before .before .before .before .before .before .before .before .before .before in
     let link-at′ = c .before .before .link-at in
-    let w =
-    onto
-    (links-next (start .args .text .now) (start .args .links .now) (start .args .params .now) (start .args .link-count) (if1′ .taken)
-    (link-at′ .ensures))
-    (loop′ .inv .put)
-    in
-    let form = linkForm (start .args .text .now) (linkOf (start .args .params .now) (link-at′ .result)) in
-    let left =
-    linksLeft (start .args .text .now) (start .args .links .now) (start .args .params .now) (start .args .link-count)
-    (suc (loop′ .i .0))
-    in
-    room (parting (eqb (loop′ .i .0) 0)) (form ++ left) w
+    let loop′ = c .before .before .before .before .before .before .loop in
+    let text = start .args .text .now in
+    let links = start .args .links .now in
+    let params = start .args .params .now in
+    let n = start .args .counts .links in
+    let w = onto (links-next text links params n (c .before .before .before .if1 .taken) (link-at′ .ensures)) (loop′ .inv .put) in
+    let form = linkForm text (toLink params (link-at′ .result)) in
+    room (parting (eqb (loop′ .i .0) 0)) (form ++ linksLeft text links params n (suc (loop′ .i .0))) w
 
 put-link-requires : tie.Need-put-link-requires Inv-loop μ-loop
 put-link-requires c κs =
-    let start =
-    c .before .before .before .before .before .before .before .before .before .before .before .before .before .before .before
-    in
-    let loop′ = c .before .before .before .before .before .before .before .before .before .loop in
+    let earlier = c .before .before .before .before .before .before .before .before .before .before in
+    let start = earlier .before .before .before .before .before .before .before in
     let if1′ = c .before .before .before .before .before .before .before .if1 in
     let link-at′ = c .before .before .before .before .before .before .link-at in
-    let put-parting′ = c .before .before .before .put-parting in
-    let w =
-    onto
-    (links-next (start .args .text .now) (start .args .links .now) (start .args .params .now) (start .args .link-count) (if1′ .taken)
-    (link-at′ .ensures))
-    (loop′ .inv .put)
-    in
-    let form = linkForm (start .args .text .now) (linkOf (start .args .params .now) (link-at′ .result)) in
-    let left =
-    linksLeft (start .args .text .now) (start .args .links .now) (start .args .params .now) (start .args .link-count)
-    (suc (loop′ .i .0))
-    in
-    let w1 = several {left = form ++ left} w (put-parting′ .ensures) in (
+    let loop′ = c .before .before .before .before .before .before .before .before .before .before .loop in
+    let text = start .args .text .now in
+    let links = start .args .links .now in
+    let params = start .args .params .now in
+    let n = start .args .counts .links in
+    let w = onto (links-next text links params n (if1′ .taken) (link-at′ .ensures)) (loop′ .inv .put) in
+    let form = linkForm text (toLink params (link-at′ .result)) in
+    let left = linksLeft text links params n (suc (loop′ .i .0)) in
+    let w1 = several {left = form ++ left} w (c .before .before .before .put-parting .ensures) in (
       target-span (start .pre .0 .good) (if1′ .taken) (link-at′ .ensures),
-      good-run (start .pre .0 .good) (if1′ .taken) (link-at′ .ensures),
-      start .pre .0 .short,
-      room form left w1,
+      (good-run (start .pre .0 .good) (if1′ .taken) (link-at′ .ensures), room form left w1),
     )
 
 next-requires : tie.Need-next-requires Inv-loop μ-loop
 next-requires c κs =
     let earlier = c .before .before .before .before .before .before .before .before .before .before in
-    let start = earlier .before .before .before .before .before .before .before .before in
-    let if1′ = earlier .if1 in
-    omega (arith, if1′ .taken, start .fits .link-count)
+    let start = earlier .before .before .before .before .before .before .before .before .before .before in
+    let if1′ = c .before .before .before .before .before .before .before .before .before .before .if1 in
+    omega (arith, link-slots (start .pre .0 .good) (if1′ .taken), start .good .1 .0 .0)
 
 loop-less : tie.Need-loop-less Inv-loop μ-loop
 loop-less c =
@@ -106,39 +93,33 @@ loop-less c =
 
 loop-again : tie.Need-loop-again Inv-loop μ-loop
 loop-again c =
-    let earlier = c .before .before .before .before .before .before .before .before .before .before .before .before .before in
-    let start = earlier .before .before .before .before .before .before in
-    let loop′ = earlier .loop in
+    let earlier = c .before .before .before .before .before .before .before .before .before .before in
+    let start = earlier .before .before .before .before .before .before .before .before .before .before .before in
     let if1′ = c .before .before .before .before .before .before .before .before .before .before .before .if1 in
     let link-at′ = c .before .before .before .before .before .before .before .before .before .before .link-at in
+    let loop′ = earlier .before .before .before .before .loop in
     let put-parting′ = c .before .before .before .before .before .before .before .put-parting in
-    let put-link′ = c .before .before .before .put-link in
-    let w =
-    onto
-    (links-next (start .args .text .now) (start .args .links .now) (start .args .params .now) (start .args .link-count) (if1′ .taken)
-    (link-at′ .ensures))
-    (loop′ .inv .put)
-    in
-    let form = linkForm (start .args .text .now) (linkOf (start .args .params .now) (link-at′ .result)) in
-    let left =
-    linksLeft (start .args .text .now) (start .args .links .now) (start .args .params .now) (start .args .link-count)
-    (suc (loop′ .i .0))
-    in
+    let text = start .args .text .now in
+    let links = start .args .links .now in
+    let params = start .args .params .now in
+    let n = start .args .counts .links in
+    let w = onto (links-next text links params n (if1′ .taken) (link-at′ .ensures)) (loop′ .inv .put) in
+    let form = linkForm text (toLink params (link-at′ .result)) in
+    let left = linksLeft text links params n (suc (loop′ .i .0)) in
     let w1 = several {left = form ++ left} w (put-parting′ .ensures) in
-    let w2 = several {left = left} w1 (put-link′ .ensures) in
+    let w2 = several {left = left} w1 (c .before .before .before .put-link .ensures) in
     rw (c .next .ensures) (next (if1′ .taken) w2)
 
 same-length : tie.Need-same-length Inv-loop μ-loop
-same-length c =
-    let loop′ = c .before .before .loop in
-    loop′ .inv .put .lengths
+same-length c = c .before .before .before .loop .inv .put .lengths
 
 returns : tie.Need-returns Inv-loop μ-loop
 returns c =
-    let start = c .before .before .before .before .before .before .before .before in
-    let loop′ = c .before .before .loop in
-    ended (loop′ .inv)
-    (links-end (start .args .text .now) (start .args .links .now) (start .args .params .now) (start .args .link-count) (c .if1 .left))
+    let start = c .before .before .before .before .before .before .before .before .before .before in
+    let loop′ = c .before .before .before .loop in
+    let text = start .args .text .now in
+    let links = start .args .links .now in
+    ended (loop′ .inv) (links-end text links (start .args .params .now) (start .args .counts .links) (c .if1 .left))
 
 pub put-links-spec : {M : Type 1} → statement M
 put-links-spec =
@@ -146,6 +127,7 @@ put-links-spec =
     (tie.spec
     Inv-loop
     μ-loop
+    start-requires
     first-requires
     loop-holds
     link-at-requires

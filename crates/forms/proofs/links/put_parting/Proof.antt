@@ -1,14 +1,14 @@
 -- Nothing before the first link, and two octets before each later one.
 use native.Mathlib.Omega.{arith}
-use Rattle.writer.proofs.Putting.{none}
+use Rattle.kinds.proofs.Putting.{none}
 use borrow.Author.Needs.{needs}
-use Rattle.writer.proofs.links.put_parting.Statement.{statement}
-use Rattle.writer.proofs.links.put_parting.Tie as tie
+use Rattle.forms.proofs.links.put_parting.Statement.{statement}
+use Rattle.forms.proofs.links.put_parting.Tie as tie
 
 returns : tie.Need-returns
 returns c =
-    rw (c .if1 .taken)
-    (none (c .before .before .args .out .now) (c .before .before .args .at) (omega (arith, c .before .before .pre)))
+    let start = c .before .before in
+    rw (c .if1 .taken) (none (start .args .out .now) (start .args .at .0) (omega (arith, start .pre)))
 
 put-two-requires : tie.Need-put-two-requires
 put-two-requires c κs = rw (c .before .if1 .left) at (c .before .before .before .pre)

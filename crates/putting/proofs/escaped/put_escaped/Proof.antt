@@ -39,12 +39,14 @@ returns c =
 
 shared-slice-read-put-quoted : tie.Need-shared-slice-read-put-quoted Inv-loop μ-loop
 shared-slice-read-put-quoted c =
-    let start = c .before .before .before .before .before .before .before .before .before .before .before .before .before .before in
+    let earlier = c .before .before .before .before .before .before .before .before .before .before in
+    let start = earlier .before .before .before .before in
     omega (arith, c .before .before .if2 .left, start .pre .0 .inside)
 
 put-quoted-requires : tie.Need-put-quoted-requires Inv-loop μ-loop
 put-quoted-requires c κs =
-    let start = c .before .before .before .before .before .before .before .before .before .before .before .before .before .before in
+    let earlier = c .before .before .before .before .before .before .before .before .before .before in
+    let start = earlier .before .before .before .before in
     let meant-at′ = c .before .before .before .before .before .meant-at in
     let loop′ = c .before .before .before .before .before .before .before .before .before .loop in
     let octets = escapeOctet (getD (start .args .s .now) (meant-at′ .result .0) 0) [] in
@@ -52,7 +54,8 @@ put-quoted-requires c κs =
 
 next-requires : tie.Need-next-requires Inv-loop μ-loop
 next-requires c κs =
-    let start = c .before .before .before .before .before .before .before .before .before .before .before .before .before .before .before .before .before in
+    let earlier = c .before .before .before .before .before .before .before .before .before .before in
+    let start = earlier .before .before .before .before .before .before .before in
     omega (arith, c .before .before .before .before .before .if2 .left, start .pre .0 .inside)
 
 loop-less : tie.Need-loop-less Inv-loop μ-loop
@@ -63,13 +66,15 @@ loop-less c =
 
 loop-again : tie.Need-loop-again Inv-loop μ-loop
 loop-again c =
-    let start = c .before .before .before .before .before .before .before .before .before .before .before .before .before .before .before .before .before .before in
+    let earlier = c .before .before .before .before .before .before .before .before .before .before in
+    let start = earlier .before .before .before .before .before .before .before .before in
     let meant-at′ = c .before .before .before .before .before .before .before .before .before .meant-at in
     let if2′ = c .before .before .before .before .before .before .if2 in
-    let loop′ = c .before .before .before .before .before .before .before .before .before .before .before .before .before .loop in
+    let loop′ = earlier .before .before .before .loop in
+    let put-quoted′ = c .before .before .before .put-quoted in
     let octets = escapeOctet (getD (start .args .s .now) (meant-at′ .result .0) 0) [] in
     let next-one = escaped-next (meant-at′ .ensures) (if2′ .left) in
-    rw (c .next .ensures) (steps (loop′ .inv) octets (meant-at′ .result .0) next-one (if2′ .left) (c .before .before .before .put-quoted .ensures))
+    rw (c .next .ensures) (steps (loop′ .inv) octets (meant-at′ .result .0) next-one (if2′ .left) (put-quoted′ .ensures))
 
 same-length-2 : tie.Need-same-length-2 Inv-loop μ-loop
 same-length-2 c = c .before .before .before .loop .inv .put .lengths

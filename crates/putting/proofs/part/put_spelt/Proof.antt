@@ -32,17 +32,21 @@ spelt-requires c κs = search needs
 
 slice-write-out : tie.Need-slice-write-out Inv-loop μ-loop
 slice-write-out c =
+    let loop′ = c .before .before .before .before .before .loop in
     let start = c .before .before .before .before .before .before .before .before .before .before in
-    slot (c .before .before .before .before .before .loop .inv)
-    (part-next (start .args .folding) (start .args .s .now) (start .args .part .to .0) (c .before .before .if1 .taken) (start .pre .0 .inside)
+    let if1′ = c .before .before .if1 in
+    slot (loop′ .inv)
+    (part-next (start .args .folding) (start .args .s .now) (start .args .part .to .0) (if1′ .taken) (start .pre .0 .inside)
     (c .spelt .ensures))
 
 next-requires : tie.Need-next-requires Inv-loop μ-loop
 next-requires c κs =
+    let loop′ = c .before .before .before .before .before .loop in
     let start = c .before .before .before .before .before .before .before .before .before .before in
+    let if1′ = c .before .before .if1 in
     let room =
-    slot (c .before .before .before .before .before .loop .inv)
-    (part-next (start .args .folding) (start .args .s .now) (start .args .part .to .0) (c .before .before .if1 .taken) (start .pre .0 .inside)
+    slot (loop′ .inv)
+    (part-next (start .args .folding) (start .args .s .now) (start .args .part .to .0) (if1′ .taken) (start .pre .0 .inside)
     (c .spelt .ensures))
     in
     omega (arith, room)
