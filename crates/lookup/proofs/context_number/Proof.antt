@@ -1,7 +1,7 @@
 -- The answer, with the base.
 use borrow.Author.Needs.{needs}
-use Rattle.context.proofs.context_number.Statement.{statement}
-use Rattle.context.proofs.context_number.Tie as tie
+use Rattle.lookup.proofs.context_number.Statement.{statement}
+use Rattle.lookup.proofs.context_number.Tie as tie
 
 context-of-requires : tie.Need-context-of-requires
 context-of-requires c κs = search needs

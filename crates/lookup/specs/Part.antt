@@ -3,22 +3,23 @@ use Prim.Native.Nat.{ℕ, _+_}
 use mathlib.Core.Path.{_≡_}
 use denote.Ref.{RefT}
 use mathlib.Core.List.{List}
-use lib.ListN.{length}
 use Rattle.tables.specs.Table.{Table}
 use Rattle.tables.specs.Good.{InText}
 use Rattle.outcomes.specs.Context.{Context, ContextOut, of-text, of-base, contextOctets}
-use Rattle.answers.specs.Context.{contextOut}
-use Rattle.answers.specs.declared.context.ContextAnswer.{ContextAnswer}
-use Rattle.answers.specs.declared.context.ContextAnswer.the-variants.{Anchored, Base, Refused}
+use Rattle.lookup.specs.Answers.{contextOut}
+use Rattle.lookup.specs.declared.ContextAnswer.{ContextAnswer}
+use Rattle.lookup.specs.declared.ContextAnswer.the-variants.{Anchored, Base, TooLong, BadTable, NoSuchLink}
 
 -- a part of the text lies in it
 abbrev pub Within : List ℕ → ContextAnswer → Type 0
 Within s (Anchored p) = InText s (p .from .0) (p .to .0)
 Within s Base = Unit
-Within s (Refused w) = Unit
+Within s TooLong = Unit
+Within s BadTable = Unit
+Within s NoSuchLink = Unit
 
 pub record IsContext (t : Table) (i : ℕ) (a : ContextAnswer) : Type 0 where
-  pub outcome : (base : List ℕ) → Context t base i (contextOut (length base) a)
+  pub outcome : (base : List ℕ) → Context t base i (contextOut base a)
   pub within : Within (t .text) a
 
 -- where the part of the text or of the base begins in memory: a block, and a place in it

@@ -1,8 +1,8 @@
 -- A refused table is refused, and a link that is not there.
 use Rattle.outcomes.specs.Context.{refused, no-such-link}
 use borrow.Author.Needs.{needs}
-use Rattle.context.proofs.context_of.Statement.{statement}
-use Rattle.context.proofs.context_of.Tie as tie
+use Rattle.lookup.proofs.anchor.context_of.Statement.{statement}
+use Rattle.lookup.proofs.anchor.context_of.Tie as tie
 
 state-of-requires : tie.Need-state-of-requires
 state-of-requires c κs = search needs

@@ -1,13 +1,12 @@
 -- The part of the text is the one that the answer names, and a refusal is no octet of the base.
 use mathlib.Core.Path.{refl, sym}
 use lib.Seq.{take-length}
-use lib.ListN.{length}
-use Rattle.answers.specs.Context.{contextOut}
-use Rattle.answers.specs.declared.context.ContextAnswer.the-variants.{Anchored}
-use Rattle.context.proofs.PartOfSource.{within, told-outcome, hands, text-part, in-text, at-base}
+use Rattle.lookup.specs.Answers.{contextOut}
+use Rattle.lookup.specs.declared.ContextAnswer.the-variants.{Anchored}
+use Rattle.lookup.proofs.Anchored.{within, told-outcome, hands, text-part, in-text, at-base}
 use borrow.Author.Needs.{needs}
-use Rattle.context.proofs.context.Statement.{statement}
-use Rattle.context.proofs.context.Tie as tie
+use Rattle.lookup.proofs.context.Statement.{statement}
+use Rattle.lookup.proofs.context.Tie as tie
 
 context-of-requires : tie.Need-context-of-requires
 context-of-requires c κs = search needs
@@ -51,7 +50,7 @@ returns c =
     let told = c .before .before .answer .given .1 in
     let known = c .before .before .before .before .context-of .ensures in
     record {
-      out = contextOut (length (start .args .base .now)) (Anchored (c .before .before .answer .given .0 .0));
+      out = contextOut (start .args .base .now) (Anchored (c .before .before .answer .given .0 .0));
       outcome = told-outcome known told (start .args .base .now);
       octets = text-part known told;
       place = in-text (start .args .text) (c .before .before .answer .given .0 .0 .from .0);

@@ -1,2 +1,0 @@
--- What the crate `context` means by its words.
-pub mod Part
