@@ -13,5 +13,9 @@ fn main() {
     let n = io::read_full(0, &mut input);
     let mut links = [0usize; LINKS];
     let mut params = [0usize; PARAMS];
-    listing::list(lines::without_final_lf(&input[..n]), &mut links, &mut params);
+    listing::list(
+        lines::without_final_lf(&input[..n]),
+        &mut links,
+        &mut params,
+    );
 }

@@ -8,9 +8,9 @@ ghost use Rattle.outcomes.specs.Read.{Read};
 ghost use Rattle.answers.specs.Read.{readNumbers, readOut};
 ghost use Rattle.listing.specs.Held.{Held};
 use answers::read::ReadAnswer;
+use columns::Line;
 use kinds::Counts;
 use kinds::LinkNumber;
-use columns::Line;
 use records::LinkRecord;
 
 // Hands a line out.
@@ -61,7 +61,6 @@ pub fn list(header: &[u8], links: &mut [usize], params: &mut [usize]) -> ReadAns
         put_table(links, params, counts);
         return answer;
     }
-    let told = answer.numbers();
-    put(lines::refusal_line(told.number, told.place));
+    put(lines::refusal_line(answer.numbers()));
     answer
 }
