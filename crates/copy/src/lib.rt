@@ -8,6 +8,8 @@ use answers::length::LengthAnswer;
 use kinds::Counts;
 use kinds::LinkNumber;
 use kinds::OutPlace;
+use table_check::TableState;
+use table_check::state_of;
 use values::copy_meaning;
 use values::meaning_len;
 
@@ -40,4 +42,24 @@ fn copy_at(
     }
     copy_meaning(text, part, out, OutPlace::start());
     LengthAnswer::Wrote(n)
+}
+
+// Writes what the value of the parameter means that stands at `index` within the link, and answers how many octets that is.
+pub fn value(
+    text: &[u8],
+    links: &[usize],
+    params: &[usize],
+    counts: Counts,
+    link: LinkNumber,
+    index: usize,
+    out: &mut [u8],
+) -> LengthAnswer
+    ensures { λ r. ⌜ Copy (tableOf (now (text .entry)) (now (links .entry)) (now (params .entry)) (counts .links) (counts .params))
+        (link .0) index (now (out .entry)) (lengthOut (lengthNumbers r) (now (out .exit))) ⌝ }
+{
+    let state = state_of(text, links, params, counts);
+    match state {
+        TableState::Refused(why) => LengthAnswer::Refused(why),
+        TableState::Usable => copy_at(text, links, params, counts, link, index, out),
+    }
 }

@@ -4,7 +4,7 @@ use mathlib.Core.List.{List}
 use Rattle.grammar.specs.Link.{Link}
 use Rattle.grammar.specs.Grammar.{rfc8288, Field}
 use Rattle.grammar.specs.Machine.{State, target, semi, equals, quote, Open}
-use Rattle.scanner.specs.Stands.{Stands, Clear}
+use Rattle.scan_parts.specs.Stands.{Stands, Clear}
 
 pub record Known (s : List ℕ) (st : State) (i : ℕ) : Type 0 where
   pub all : List Link

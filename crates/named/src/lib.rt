@@ -1,6 +1,5 @@
 // The first parameter of a name in a link.
 ghost use Rattle.named.specs.First.{Listed, FirstNamed};
-use kinds::ParamNumber;
 use records::LinkRecord;
 use records::ParamRecord;
 use records::param_at;

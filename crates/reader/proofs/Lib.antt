@@ -1,6 +1,2 @@
--- Laws of filling.
-pub mod Total
-pub mod Filling
-pub mod OfLinks
-pub mod Whole
-pub mod Answers
+-- Laws of reading.
+pub mod ScanToOutcome

@@ -1,41 +1,32 @@
 // Reads a header into lent tables. The whole header is scanned and counted, the rooms are tested once, and then the records are
 // filled in; so a refusal leaves both tables as they were.
-ghost use mathlib.Core.Path.{_≡_};
-ghost use Prim.Native.Nat.{_≤_};
-ghost use lib.ListN.{length};
 ghost use Rattle.outcomes.specs.Read.{Read};
-ghost use Rattle.reader.specs.Answer.{readOut};
-use kinds::Place;
+ghost use Rattle.answers.specs.Read.{readNumbers, readOut};
+use answers::LIMIT;
+use answers::Refusal;
+use answers::read::ReadAnswer;
 use scanner::HeaderScan;
 
-mod fill;
-
-// What reading answers: counts of links and kept parameters, or why the header is refused.
-pub enum ReadAnswer {
-    Done(usize, usize),
-    TooLong,
-    Malformed(Place),
-    NoLinkRoom,
-    NoParamRoom,
-}
-
 pub fn read(header: &[u8], links: &mut [usize], params: &mut [usize]) -> ReadAnswer
-    ensures { λ r. ⌜ Read (now (header .entry)) (now (links .entry)) (now (params .entry)) (readOut r (now (links .exit)) (now (params .exit))) ⌝ }
+    ensures { λ r. ⌜ Read (now (header .entry)) (now (links .entry)) (now (params .entry))
+        (readOut (readNumbers r) (now (links .exit)) (now (params .exit))) ⌝ }
 {
-    if header.len() > 8192 {
-        return ReadAnswer::TooLong;
+    if header.len() > LIMIT {
+        return ReadAnswer::Refused(Refusal::TooLong);
     }
     match scanner::header::scan(header) {
         HeaderScan::Malformed(p) => ReadAnswer::Malformed(p),
-        HeaderScan::Counted(n, m) => {
-            if links.len() / 4 < n {
-                return ReadAnswer::NoLinkRoom;
+        HeaderScan::Counted(counts) => {
+            let link_room = records::link_room(links);
+            let param_room = records::param_room(params);
+            if link_room < counts.links {
+                return ReadAnswer::Refused(Refusal::NoLinkRoom);
             }
-            if params.len() / 5 < m {
-                return ReadAnswer::NoParamRoom;
+            if param_room < counts.params {
+                return ReadAnswer::Refused(Refusal::NoParamRoom);
             }
-            fill::fill(header, links, params);
-            ReadAnswer::Done(n, m)
+            filling::fill(header, links, params);
+            ReadAnswer::Done(counts)
         }
     }
 }

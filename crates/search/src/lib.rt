@@ -9,6 +9,8 @@ use kinds::Counts;
 use kinds::LinkNumber;
 use runs::match_run;
 use runs::next_run;
+use table_check::TableState;
+use table_check::state_of;
 
 // Over the links, over a link's parameters, and over the runs of its `rel` value. The first run that matches leaves all three with the
 // link's number, and a link's first `rel` is the only one that is asked.
@@ -49,5 +51,23 @@ fn first_with(
             }
         }
         l = l.next();
+    }
+}
+
+// The lowest link number that has the relation.
+pub fn search(
+    text: &[u8],
+    links: &[usize],
+    params: &[usize],
+    counts: Counts,
+    relation: &[u8],
+) -> SearchAnswer
+    ensures { λ r. ⌜ Search (tableOf (now (text .entry)) (now (links .entry)) (now (params .entry)) (counts .links) (counts .params))
+        (now (relation .entry)) (searchOut (searchNumbers r)) ⌝ }
+{
+    let state = state_of(text, links, params, counts);
+    match state {
+        TableState::Refused(why) => SearchAnswer::Refused(why),
+        TableState::Usable => first_with(text, links, params, counts, relation),
     }
 }

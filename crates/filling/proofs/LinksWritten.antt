@@ -1,0 +1,247 @@
+-- The links written so far: between two of them both tables hold the records of those read.
+use Prim.Native.Nat.{ℕ, suc, _+_, _*_, _/_, _≤_, _<_}
+use native.Mathlib.Omega.{arith}
+use native.Mathlib.Nat.{zero-add}
+use native.Mathlib.Numerals.{add-one}
+use mathlib.Core.Path.{_≡_, refl, sym, ap, ap₂, subst, _∙_}
+use mathlib.Core.Bool.{Bool, true, false, true≢false}
+use mathlib.Core.List.{List, [], _∷_, _++_, map, map-append, reverse, reverse-cons, append-nil}
+use lib.Dec.{eqb}
+use lib.ListN.{length, drop, getD, length-map}
+use lib.Seq.{sets, length-sets}
+use borrow.Author.Tests.{eqb-true}
+use Rattle.octets.specs.Sets.{isBlank}
+use Rattle.grammar.specs.Link.{Link, Param}
+use Rattle.grammar.specs.Grammar.{rfc8288, At, Field}
+use Rattle.grammar.specs.Kept.{keptLink, keepAfter, Reading}
+use Rattle.grammar.specs.Records.{
+  linkWidth,
+  paramWidth,
+  linkRoom,
+  paramRoom,
+  countParams,
+  recordsOf,
+  linkRecords,
+  paramRecords,
+}
+use Rattle.grammar.specs.Machine.{State, gap, target, step, dead}
+use Rattle.grammar.proofs.Rest.{Rest}
+use Rattle.grammar.proofs.Editions.{admissible8288}
+use Rattle.grammar.proofs.Readings.{one-reading}
+use Rattle.grammar.proofs.Joining.{link-records-append, param-records-append}
+use Rattle.tables.proofs.Filled.{link-records-length, param-records-length}
+use Rattle.kinds.proofs.Stores.{sets-append, sets-front}
+use Rattle.cursor.specs.Passed.{Passed}
+use Rattle.scan_parts.specs.Stands.{Stands}
+use Rattle.scan_parts.proofs.Standing.{stands-start, stands-step, finishes}
+use Rattle.scanner.proofs.ReadyBehindLink.{linkOf, link-ready, link-forward}
+use Rattle.scanner.proofs.BetweenLinks.{
+  ordered,
+  ordered-length,
+  ordered-count,
+  gap-blanks,
+  gap-comma,
+  target-begins,
+  link-last,
+  link-comma,
+  kept-with,
+}
+use Rattle.filling.specs.Filling.{ReadingFits, BeforeLink, LinkFilled, TablesFilled}
+use Rattle.filling.proofs.PartOfReading.{stands-rest, rest-alive, part-links}
+
+ordered-more : (s : List ℕ) (l : Link) (ls : List Link) → ordered s (l ∷ ls) ≡ ordered s ls ++ (keptLink s l ∷ [])
+ordered-more s l ls = ap (map (keptLink s)) (reverse-cons l ls) ∙ map-append (keptLink s) (reverse ls) (l ∷ [])
+
+-- both tables hold the records of the links ls, held last first
+pub record Held (s L₀ P₀ : List ℕ) (ls : List Link) (L P : List ℕ) : Type 0 where
+  pub link-slots : L ≡ sets L₀ 0 (linkRecords 0 (ordered s ls))
+  pub param-slots : P ≡ sets P₀ 0 (paramRecords (ordered s ls))
+
+held-lengths : {s L₀ P₀ L P : List ℕ} {ls : List Link} → Held s L₀ P₀ ls L P → (length L ≡ length L₀) × (length P ≡ length P₀)
+held-lengths {s} {L₀} {P₀} {ls = ls} h = (
+  ap length (h .link-slots) ∙ length-sets L₀ 0 (linkRecords 0 (ordered s ls)),
+  ap length (h .param-slots) ∙ length-sets P₀ 0 (paramRecords (ordered s ls)),
+)
+
+-- n slots stored from the first on
+front : (l vs : List ℕ) (n : ℕ) → length vs ≡ n → n ≤ length l → sets l 0 vs ≡ vs ++ drop n l
+front l vs n e h = sets-front l vs (omega arith) ∙ ap (λ (k : ℕ). vs ++ drop k l) e
+
+-- at place i, between links: those held have been read and written, and the next numbers are n and m
+pub record LinksWritten (s L₀ P₀ : List ℕ) (i n m : ℕ) (L P : List ℕ) : Type 0 where
+  pub links : List Link
+  pub stands : Stands s (gap links) i
+  pub link-number : n ≡ length links
+  pub param-number : m ≡ countParams (map (keptLink s) links)
+  pub held : Held s L₀ P₀ links L P
+
+module _ {s L₀ P₀ : List ℕ} (fits : ReadingFits s L₀ P₀) where
+  -- a header that ends with these links read has their reading
+  held-filled : {L P : List ℕ} (ls : List Link) → Field rfc8288 s (reverse ls) → Held s L₀ P₀ ls L P → TablesFilled s L₀ L P₀ P
+  held-filled ls f h =
+      let K = ordered s ls in
+      let reads : Reading rfc8288 s K = record { links = reverse ls; derived = f; kept = refl } in
+      let same : fits .reading ≡ K = one-reading rfc8288 admissible8288 s (fits .reading) K (fits .reads) reads in
+      record {
+        reading = K;
+        reads = reads;
+        links =
+            h .link-slots
+            ∙ front L₀ (linkRecords 0 K) (linkWidth * length K) (link-records-length 0 K)
+            (omega (arith, fits .link-room, ap length same));
+        params =
+            h .param-slots
+            ∙ front P₀ (paramRecords K) (paramWidth * countParams K) (param-records-length K)
+            (omega (arith, fits .param-room, ap countParams same));
+      }
+
+  pub filling-start : {i n m : ℕ} → i ≡ 0 → n ≡ 0 → m ≡ 0 → LinksWritten s L₀ P₀ i n m L₀ P₀
+  filling-start e f g =
+      record {
+        links = [];
+        stands = subst (Stands s (gap [])) (sym e) (stands-start s);
+        link-number = f;
+        param-number = g;
+        held = record { link-slots = refl; param-slots = refl };
+      }
+
+  module _ {i n m : ℕ} {L P : List ℕ} (w : LinksWritten s L₀ P₀ i n m L P) where
+    pub filling-lengths : (length L ≡ length L₀) × (length P ≡ length P₀)
+    filling-lengths = held-lengths (w .held)
+
+    module _ {j : ℕ} (p : Passed isBlank s i j) where
+      here : Stands s (gap (w .links)) j
+      here = gap-blanks (w .stands) p
+
+      pub filled-at-end : length s ≤ j → TablesFilled s L₀ L P₀ P
+      filled-at-end h = held-filled (w .links) (finishes here h refl) (w .held)
+
+      pub comma-on : {k : ℕ} → At s j 44 → k ≡ j + 1 → LinksWritten s L₀ P₀ k n m L P
+      comma-on q e =
+          record {
+            links = w .links;
+            stands = gap-comma here q e;
+            link-number = w .link-number;
+            param-number = w .param-number;
+            held = w .held;
+          }
+
+      -- where neither blank nor comma stands, a link begins
+      link-begins : j < length s → eqb (getD s j 0) 44 ≡ false → At s j 60
+      link-begins h e = go (eqb (getD s j 0) 60) refl
+        where
+          go : (b : Bool) → eqb (getD s j 0) 60 ≡ b → At s j 60
+          go true f = record { inside = h; is = eqb-true (getD s j 0) 60 f }
+          go false f =
+              let died : step rfc8288 (gap (w .links)) j (getD s j 0) ≡ dead = rw (p .stops h, e, f) in
+              absurd
+              (true≢false
+              (rest-alive
+              (subst (λ (x : State). Rest rfc8288 s x (suc j) (fits .reads .links)) died
+              (stands-rest (fits .reads .derived) (stands-step here h)))))
+
+      module _ {k : ℕ} (h : j < length s) (c : eqb (getD s j 0) 44 ≡ false) (q : k ≡ j + 1) where
+        begun : Stands s (target (w .links) k) k
+        begun = target-begins here (link-begins h c) q
+
+        pub before-link : BeforeLink s L P k n m
+        before-link =
+            let all = fits .reads .links in
+            let links : length (fits .reading) ≡ length all = ap length (fits .reads .kept) ∙ length-map all (keptLink s) in
+            let params : countParams (fits .reading) ≡ countParams (map (keptLink s) all) = ap countParams (fits .reads .kept) in
+            let more-links : linkRoom L ≡ linkRoom L₀ = ap (λ (x : ℕ). x / linkWidth) (filling-lengths .0) in
+            let more-params : paramRoom P ≡ paramRoom P₀ = ap (λ (x : ℕ). x / paramWidth) (filling-lengths .1) in
+            record {
+              all = all;
+              derived = fits .reads .derived;
+              link-room = omega (arith, fits .link-room);
+              param-room = omega (arith, fits .param-room);
+              links = w .links;
+              stands = begun;
+              link-number = w .link-number;
+              param-number = w .param-number;
+            }
+
+        module _ {d x : ℕ} {L′ P′ : List ℕ} (f : LinkFilled s k d n m x L L′ P P′) where
+          link : Link
+          link = linkOf (f .link)
+
+          kept : List Param
+          kept = keepAfter s [] (reverse (f .link .rest .params))
+
+          numbers : List ℕ
+          numbers = k ∷ f .link .close ∷ m ∷ f .count ∷ []
+
+          links-more : linkRecords 0 (ordered s (w .links)) ++ numbers ≡ linkRecords 0 (ordered s (link ∷ w .links))
+          unfolding link numbers
+          links-more =
+              let first : m ≡ 0 + countParams (ordered s (w .links)) =
+              w .param-number ∙ sym (zero-add (countParams (ordered s (w .links))) ∙ ordered-count s (w .links))
+              in
+              ap₂
+              (λ (x y : ℕ). linkRecords 0 (ordered s (w .links)) ++ (k ∷ f .link .close ∷ x ∷ y ∷ []))
+              first (f .link .rest .kept)
+              ∙ sym
+              (ap (linkRecords 0) (ordered-more s link (w .links))
+              ∙ link-records-append 0 (ordered s (w .links)) (keptLink s link ∷ []))
+
+          params-more : paramRecords (ordered s (w .links)) ++ recordsOf kept ≡ paramRecords (ordered s (link ∷ w .links))
+          unfolding link kept
+          params-more =
+              ap (λ (x : List ℕ). paramRecords (ordered s (w .links)) ++ x) (sym (append-nil (recordsOf kept)))
+              ∙ sym
+              (ap paramRecords (ordered-more s link (w .links))
+              ∙ param-records-append (ordered s (w .links)) (keptLink s link ∷ []))
+
+          held-more : Held s L₀ P₀ (link ∷ w .links) L′ P′
+          unfolding numbers kept
+          held-more =
+              let K = ordered s (w .links) in
+              let at : linkWidth * n ≡ 0 + length (linkRecords 0 K) =
+              omega (arith, link-records-length 0 K, ordered-length s (w .links), w .link-number)
+              in
+              let to : paramWidth * m ≡ 0 + length (paramRecords K) =
+              omega (arith, param-records-length K, ordered-count s (w .links), w .param-number)
+              in
+              record {
+                link-slots =
+                    f .links-written ∙ ap₂ (λ (t : List ℕ) (g : ℕ). sets t g numbers) (w .held .link-slots) at
+                    ∙ sym (sets-append L₀ 0 (linkRecords 0 K) numbers) ∙ ap (sets L₀ 0) links-more;
+                param-slots =
+                    f .params-written ∙ ap₂ (λ (t : List ℕ) (g : ℕ). sets t g (recordsOf kept)) (w .held .param-slots) to
+                    ∙ sym (sets-append P₀ 0 (paramRecords K) (recordsOf kept)) ∙ ap (sets P₀ 0) params-more;
+              }
+
+          pub filled-behind : length s ≤ d → TablesFilled s L₀ L′ P₀ P′
+          unfolding link
+          filled-behind e = held-filled (linkOf (f .link) ∷ w .links) (link-last (f .link) begun e) held-more
+
+          pub link-on : {v u : ℕ} → d < length s → v ≡ d + 1 → u ≡ n + 1 → LinksWritten s L₀ P₀ v u x L′ P′
+          unfolding link
+          link-on e y z =
+              record {
+                links = linkOf (f .link) ∷ w .links;
+                stands = link-comma (f .link) begun e y;
+                link-number = z ∙ add-one n ∙ ap suc (w .link-number);
+                param-number = f .next ∙ kept-with (f .link) begun (w .param-number);
+                held = held-more;
+              }
+
+          -- this link is one of the header's, so that its number fits
+          pub links-few : n < linkRoom L₀
+          links-few =
+              let all = fits .reads .links in
+              let links : length (fits .reading) ≡ length all = ap length (fits .reads .kept) ∙ length-map all (keptLink s) in
+              omega (
+                arith,
+                part-links (fits .reads .derived) (link-ready (w .links) (f .link) begun),
+                fits .link-room,
+                w .link-number,
+              )
+
+          pub behind-inside : (k < d) × (d ≤ length s)
+          behind-inside = let g = link-forward (f .link) in (omega (arith, g .0), g .1)
+
+          pub lengths-kept : (length L′ ≡ length L₀) × (length P′ ≡ length P₀)
+          unfolding link
+          lengths-kept = held-lengths held-more

@@ -1,0 +1,2 @@
+-- What the functions of the crate `filling` ask and promise.
+pub mod Filling

@@ -1,0 +1,2 @@
+-- Laws of written forms.
+pub mod ValueForms

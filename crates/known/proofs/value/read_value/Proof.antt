@@ -1,0 +1,55 @@
+-- A quoted string, else a token: one of them stands there.
+use borrow.Author.Needs.{needs}
+use Rattle.scan_parts.proofs.PassedIsParsed.{quoted-parsed}
+use Rattle.known.proofs.KnownIsParsed.{known-quoted, token-value}
+use Rattle.known.proofs.value.read_value.Statement.{statement}
+use Rattle.known.proofs.value.read_value.Tie as tie
+
+sees-requires : tie.Need-sees-requires
+sees-requires c κs = search needs
+
+past-octet-requires : tie.Need-past-octet-requires
+past-octet-requires c κs = (c .before .sees .ensures .yes) (c .if1 .taken) .inside
+
+inside-end-requires : tie.Need-inside-end-requires
+inside-end-requires c κs =
+    known-quoted (c .before .before .before .before .pre) ((c .before .before .sees .ensures .yes) (c .before .if1 .taken))
+    (c .past-octet .ensures)
+
+span-to-requires : tie.Need-span-to-requires
+span-to-requires c κs = search needs
+
+past-octet-requires-2 : tie.Need-past-octet-requires-2
+past-octet-requires-2 c κs = c .before .inside-end .ensures .1 .inside
+
+returns : tie.Need-returns
+returns c =
+    let b1 = c .before .before .before in
+    quoted-parsed ((b1 .before .before .sees .ensures .yes) (b1 .before .if1 .taken)) (b1 .past-octet .ensures)
+    (c .before .before .inside-end .ensures .0) (c .before .before .inside-end .ensures .1) (c .before .span-to .ensures)
+    (c .past-octet2 .ensures)
+
+past-token-requires : tie.Need-past-token-requires
+past-token-requires c κs = c .before .before .before .pre .clear .inside
+
+span-to-requires-2 : tie.Need-span-to-requires-2
+span-to-requires-2 c κs = search needs
+
+returns-2 : tie.Need-returns-2
+returns-2 c =
+    token-value (c .before .before .before .before .before .pre) (c .before .before .before .sees .ensures)
+    (c .before .before .if1 .left) (c .before .past-token .ensures) (c .span-to2 .ensures)
+
+pub read-value-spec : {M : Type 1} → statement M
+read-value-spec =
+    tie.close
+    (tie.spec
+    sees-requires
+    past-octet-requires
+    inside-end-requires
+    span-to-requires
+    past-octet-requires-2
+    returns
+    past-token-requires
+    span-to-requires-2
+    returns-2)

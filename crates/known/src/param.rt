@@ -1,0 +1,44 @@
+// A parameter that is known to be derived, behind `;` and blanks.
+ghost use Rattle.records.specs.Slots.{toParam};
+ghost use Rattle.scan_parts.specs.Parsed.{Parsed};
+ghost use Rattle.known.specs.Known.{KnownParam};
+use crate::value::read_value;
+use cursor::Cursor;
+use records::ParamRecord;
+
+// A parameter's record, and the cursor behind it.
+pub struct ParamRead {
+    pub record: ParamRecord,
+    pub next: Cursor,
+}
+
+pub fn read_param(s: &[u8], from: Cursor) -> ParamRead
+    requires { ⌜ KnownParam (now s) (from .at .0) ⌝ }
+    ensures { λ r. ⌜ Parsed (now (s .entry)) (from .at .0) (toParam (r .record)) (r .next .at .0) ⌝ }
+{
+    let e = from.past_token(s);
+    let name = from.span_to(e);
+    let k = e.past_blanks(s);
+    if !k.sees(s, b'=') {
+        let value = e.span_to(e);
+        return ParamRead {
+            record: ParamRecord {
+                name,
+                value,
+                form: 0,
+            },
+            next: k,
+        };
+    }
+    let v = read_value(s, k.past_octet(s).past_blanks(s));
+    let value = v.span;
+    let next = v.next;
+    ParamRead {
+        record: ParamRecord {
+            name,
+            value,
+            form: v.form,
+        },
+        next,
+    }
+}

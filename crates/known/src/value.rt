@@ -1,0 +1,34 @@
+// A value that is known to be derived, behind `=` and blanks.
+ghost use Rattle.scan_parts.specs.Parsed.{ParsedValue};
+ghost use Rattle.known.specs.Known.{KnownValue};
+use crate::quoted::inside_end;
+use cursor::Cursor;
+use kinds::Span;
+
+// A value's span and form, and the cursor behind it.
+pub struct ValueRead {
+    pub span: Span,
+    pub form: usize,
+    pub next: Cursor,
+}
+
+pub fn read_value(s: &[u8], from: Cursor) -> ValueRead
+    requires { ⌜ KnownValue (now s) (from .at .0) ⌝ }
+    ensures { λ r. ⌜ ParsedValue (now (s .entry)) (from .at .0) (r .span .from .0) (r .span .to .0) (r .form) (r .next .at .0) ⌝ }
+{
+    if from.sees(s, b'"') {
+        let start = from.past_octet(s);
+        let q = inside_end(s, start);
+        return ValueRead {
+            span: start.span_to(q),
+            form: 2,
+            next: q.past_octet(s),
+        };
+    }
+    let e = from.past_token(s);
+    ValueRead {
+        span: from.span_to(e),
+        form: 1,
+        next: e,
+    }
+}

@@ -1,0 +1,3 @@
+-- Laws of measuring the written form.
+pub mod FormLengths
+pub mod MeasuredUpTo

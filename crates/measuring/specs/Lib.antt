@@ -1,0 +1,2 @@
+-- What the crate `measuring` means by its words.
+pub mod Measured

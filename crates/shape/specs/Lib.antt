@@ -1,0 +1,3 @@
+-- What the crate `shape` means by its words.
+pub mod Shape
+pub mod Forms
