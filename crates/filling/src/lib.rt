@@ -11,7 +11,8 @@ mod params;
 // Writes the records of all links. Between two of them stand blanks and commas alone.
 pub fn fill(s: &[u8], links: &mut [usize], params: &mut [usize])
     requires { ⌜ ReadingFits (now s) (now links) (now params) ⌝ }
-    ensures { λ _. ⌜ TablesFilled (now (s .entry)) (now (links .entry)) (now (links .exit)) (now (params .entry)) (now (params .exit)) ⌝ }
+    ensures { λ _. ⌜ TablesFilled (now (s .entry))
+        (now (links .entry)) (now (links .exit)) (now (params .entry)) (now (params .exit)) ⌝ }
 {
     let mut c = Cursor::start();
     let mut n = LinkNumber::first();

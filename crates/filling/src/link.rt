@@ -18,7 +18,8 @@ pub fn fill_link(
     m: ParamNumber,
 ) -> Behind
     requires { ⌜ BeforeLink (now s) (now links) (now params) (from .at .0) (n .0) (m .0) ⌝ }
-    ensures { λ r. ⌜ LinkFilled (now (s .entry)) (from .at .0) (r .cursor .at .0) (n .0) (m .0) (r .next .0) (now (links .entry)) (now (links .exit)) (now (params .entry)) (now (params .exit)) ⌝ }
+    ensures { λ r. ⌜ LinkFilled (now (s .entry)) (from .at .0) (r .cursor .at .0) (n .0) (m .0) (r .next .0)
+        (now (links .entry)) (now (links .exit)) (now (params .entry)) (now (params .exit)) ⌝ }
 {
     let t = target_end(s, from);
     let behind = fill_params(s, t.past_octet(s), params, m);

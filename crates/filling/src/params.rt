@@ -31,7 +31,8 @@ fn keep(params: &mut [usize], m: ParamNumber, r: ParamRecord, again: bool) -> Pa
 // Writes the records of a link's kept parameters, from number m on.
 pub fn fill_params(s: &[u8], from: Cursor, params: &mut [usize], m: ParamNumber) -> Behind
     requires { ⌜ BeforeParams (now s) (now params) (from .at .0) (m .0) ⌝ }
-    ensures { λ r. ⌜ ParamsFilled (now (s .entry)) (from .at .0) (r .cursor .at .0) (m .0) (r .next .0) (now (params .entry)) (now (params .exit)) ⌝ }
+    ensures { λ r. ⌜ ParamsFilled (now (s .entry)) (from .at .0) (r .cursor .at .0) (m .0) (r .next .0)
+        (now (params .entry)) (now (params .exit)) ⌝ }
 {
     let mut c = from;
     let mut n = m;

@@ -3,11 +3,11 @@
 use Prim.Native.Nat.{ℕ, suc, _+_, _-_, _≤_, _<_}
 use native.Mathlib.Omega.{arith}
 use native.Mathlib.Numerals.{add-one}
-use mathlib.Core.Path.{_≡_, refl, subst, _∙_}
+use mathlib.Core.Path.{_≡_, sym, ap, subst, _∙_}
 use mathlib.Core.List.{List, _∷_}
 use mathlib.Core.Option.{Option, none, some}
 use borrow.Author.Tests.{eq-eqb, ne-eqb}
-use Rattle.grammar.specs.Link.{Param}
+use Rattle.grammar.specs.Link.{Link, Param}
 use Rattle.grammar.specs.Kept.{nameOf, codeOf}
 use Rattle.grammar.specs.Records.{paramRoom}
 use Rattle.tables.specs.Table.{Table, paramAt, paramsFrom, linkAt}
@@ -16,6 +16,7 @@ use Rattle.tables.proofs.InGood.{each-param, params-slots, good-link}
 use Rattle.records.specs.Slots.{IsLink, toLink, toParam}
 use Rattle.records.specs.declared.LinkRecord.{LinkRecord}
 use Rattle.records.specs.declared.ParamRecord.{ParamRecord}
+use Rattle.records.proofs.Told.{link-told}
 use Rattle.named.specs.First.{Listed, coded}
 
 -- link number i of a good table, by its record r
@@ -26,7 +27,7 @@ listed g l is =
 
 pub own-params : {L : List ℕ} (P : List ℕ) {i : ℕ} {r : LinkRecord} → IsLink L i r
     → (linkAt L P i) .params ≡ (toLink P r) .params
-own-params P is = rw (is .first, is .count)
+own-params P is = sym (ap (λ (x : Link). x .params) (link-told P is))
 
 pub record Looking {A : Type 0} (f : Option Param → A) (s P : List ℕ) (k : ℕ) (ps : List Param) (end p : ℕ) : Type 0 where
   pub inside : p ≤ end

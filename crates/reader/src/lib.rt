@@ -8,7 +8,8 @@ use answers::read::ReadAnswer;
 use scanner::HeaderScan;
 
 pub fn read(header: &[u8], links: &mut [usize], params: &mut [usize]) -> ReadAnswer
-    ensures { λ r. ⌜ Read (now (header .entry)) (now (links .entry)) (now (params .entry)) (readOut (readNumbers r) (now (links .exit)) (now (params .exit))) ⌝ }
+    ensures { λ r. ⌜ Read (now (header .entry)) (now (links .entry)) (now (params .entry))
+        (readOut (readNumbers r) (now (links .exit)) (now (params .exit))) ⌝ }
 {
     if header.len() > LIMIT {
         return ReadAnswer::Refused(Refusal::TooLong);

@@ -1,1 +1,2 @@
 -- Laws about slots, for other crates to cite.
+pub mod Told

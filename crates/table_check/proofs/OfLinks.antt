@@ -1,6 +1,6 @@
 -- A loop that passes the links of a table: it stands at link number i, whose parameters are to begin at `next`, and the links that
 -- are left tell whether the table is good.
-use Prim.Native.Nat.{ℕ, zero, suc, _+_, _-_, _/_, _≤_, _<_}
+use Prim.Native.Nat.{ℕ, suc, _+_, _-_, _≤_, _<_}
 use native.Mathlib.Omega.{arith}
 use native.Mathlib.Numerals.{add-one}
 use native.Mathlib.Nat.{sub-zero}
@@ -8,55 +8,56 @@ use mathlib.Core.Path.{_≡_, sym, subst, _∙_}
 use mathlib.Core.Bool.{false}
 use mathlib.Core.List.{List}
 use lib.Dec.{eqb}
-use lib.ListN.{length}
+use Rattle.grammar.specs.Records.{linkRoom, paramRoom}
 use Rattle.tables.specs.Table.{firstOf, countOf, linkAt, linksFrom, tableOf}
 use Rattle.tables.specs.Good.{Each, each-none, each-more, Follows, GoodLink, Good}
-use Rattle.kinds.specs.Slots.{IsLink}
-use Rattle.kinds.specs.declared.LinkRecord.{LinkRecord}
-use Rattle.table_check.specs.Decides.{Decides}
-use Rattle.table_check.specs.Parts.{linkOf}
-use Rattle.table_check.proofs.Deciding.{also, not-so, tests-eq}
-use Rattle.table_check.proofs.OfParams.{first-of}
-
--- the parameters of links end no earlier than they begin
-follows-le : (L : List ℕ) (i n at m : ℕ) → Follows L i n at m → at ≤ m
-follows-le L i zero at m h = omega arith
-follows-le L i (suc n) at m h = omega (arith, follows-le L (suc i) n (at + countOf L i) m (h .1))
-
--- the link of a record that the slots hold
-link-told : {L : List ℕ} (P : List ℕ) {i : ℕ} {l : LinkRecord} → IsLink L i l → linkOf P l ≡ linkAt L P i
-link-told P e = rw (e .from, e .to, e .first, e .count)
+use Rattle.tables.proofs.InGood.{head-of, tail-of, follows-le}
+use Rattle.records.specs.Slots.{IsLink, toLink}
+use Rattle.records.specs.declared.LinkRecord.{LinkRecord}
+use Rattle.records.proofs.Told.{link-told}
+use Rattle.part_check.specs.Decides.{Decides}
+use Rattle.part_check.proofs.Deciding.{also, not-so, tests-eq}
 
 module _ (s L P : List ℕ) (n m : ℕ) where
   -- what is asked of the links from number i on
-  record Left (next i : ℕ) : Type 0 where
+  record LinksLeft (next i : ℕ) : Type 0 where
     follows : Follows L i (n - i) next m
     links : Each (GoodLink s) (linksFrom L P i (n - i))
 
   pub record Walked (next i : ℕ) : Type 0 where
-    pub link-room : n ≤ length L / 4
-    pub param-room : m ≤ length P / 5
+    pub link-room : n ≤ linkRoom L
+    pub param-room : m ≤ paramRoom P
     pub within : i ≤ n
     pub below : next ≤ m
-    back : Left next i → Good (tableOf s L P n m)
-    on : Good (tableOf s L P n m) → Left next i
+    back : LinksLeft next i → Good (tableOf s L P n m)
+    on : Good (tableOf s L P n m) → LinksLeft next i
 
-  pub begin : n ≤ length L / 4 → m ≤ length P / 5 → Walked 0 0
-  begin a b =
+  -- the rooms are a and b, and the counts fit them
+  pub begin : {a b : ℕ} → a ≡ linkRoom L → b ≡ paramRoom P → n ≤ a → m ≤ b → Walked 0 0
+  begin e f h k =
+      let in-links : n ≤ linkRoom L = rw e at h in
+      let in-params : m ≤ paramRoom P = rw f at k in
       record {
-        link-room = a;
-        param-room = b;
+        link-room = in-links;
+        param-room = in-params;
         within = omega arith;
         below = omega arith;
         back =
-            λ h. record {
-              link-room = a;
-              param-room = b;
-              follows = rw (sub-zero n) at (h .follows);
-              links = rw (sub-zero n) at (h .links);
+            λ g. record {
+              link-room = in-links;
+              param-room = in-params;
+              follows = rw (sub-zero n) at (g .follows);
+              links = rw (sub-zero n) at (g .links);
             };
         on = λ g. record { follows = rw (sub-zero n) (g .follows); links = rw (sub-zero n) (g .links) };
       }
+
+  -- they don't fit them
+  pub no-link-room : {a : ℕ} → a ≡ linkRoom L → a < n → Decides false (Good (tableOf s L P n m))
+  no-link-room e h = not-so (λ g. omega (arith, e, g .link-room))
+
+  pub no-param-room : {b : ℕ} → b ≡ paramRoom P → b < m → Decides false (Good (tableOf s L P n m))
+  no-param-room e h = not-so (λ g. omega (arith, e, g .param-room))
 
 module _ {s L P : List ℕ} {n m next i : ℕ} (w : Walked s L P n m next i) where
   pub through : n ≤ i → Decides (eqb next m) (Good (tableOf s L P n m))
@@ -66,29 +67,29 @@ module _ {s L P : List ℕ} {n m next i : ℕ} (w : Walked s L P n m next i) whe
       (tests-eq next m)
 
   module _ (h : i < n) {l : LinkRecord} (e : IsLink L i l) where
-    record Split : Type 0 where
+    record FirstLink : Type 0 where
       first : l .first .0 ≡ next
       room : next + l .count ≤ m
-      link : GoodLink s (linkOf P l)
-      rest : Left s L P n m (next + l .count) (i + 1)
+      link : GoodLink s (toLink P l)
+      rest : LinksLeft s L P n m (next + l .count) (i + 1)
 
     more : n - i ≡ suc (n - suc i)
     more = omega arith
 
-    split : Left s L P n m next i → Split
+    split : LinksLeft s L P n m next i → FirstLink
     split g =
         let f : (firstOf L i ≡ next) × Follows L (suc i) (n - suc i) (next + countOf L i) m =
         subst (λ (k : ℕ). Follows L i k next m) more (g .follows)
         in
-        let gs = first-of (subst (λ (k : ℕ). Each (GoodLink s) (linksFrom L P i k)) more (g .links)) in
+        let gs = subst (λ (k : ℕ). Each (GoodLink s) (linksFrom L P i k)) more (g .links) in
         record {
           first = e .first ∙ f .0;
           room = rw (e .count) (follows-le L (suc i) (n - suc i) (next + countOf L i) m (f .1));
-          link = rw (link-told P e) (gs .0);
-          rest = record { follows = rw (add-one i, e .count) (f .1); links = rw (add-one i) (gs .1) };
+          link = rw (link-told P e) (head-of gs);
+          rest = record { follows = rw (add-one i, e .count) (f .1); links = rw (add-one i) (tail-of gs) };
         }
 
-    joined : Split → Left s L P n m next i
+    joined : FirstLink → LinksLeft s L P n m next i
     joined g =
         record {
           follows = rw more (sym (e .first) ∙ g .first, rw (add-one i, e .count) at (g .rest .follows));
@@ -102,10 +103,10 @@ module _ {s L P : List ℕ} {n m next i : ℕ} (w : Walked s L P n m next i) whe
     pub too-many : m - next < l .count → Decides false (Good (tableOf s L P n m))
     too-many d = not-so (λ g. omega (arith, w .below, split (w .on g) .room))
 
-    pub bad-link : (GoodLink s (linkOf P l) → ⊥) → Decides false (Good (tableOf s L P n m))
+    pub bad-link : (GoodLink s (toLink P l) → ⊥) → Decides false (Good (tableOf s L P n m))
     bad-link d = not-so (λ g. d (split (w .on g) .link))
 
-    pub passed : l .first .0 ≡ next → l .count ≤ m - next → GoodLink s (linkOf P l) → Walked s L P n m (next + l .count) (i + 1)
+    pub passed : l .first .0 ≡ next → l .count ≤ m - next → GoodLink s (toLink P l) → Walked s L P n m (next + l .count) (i + 1)
     passed f r g =
         let room : next + l .count ≤ m = omega (arith, w .below) in
         record {
@@ -116,11 +117,3 @@ module _ {s L P : List ℕ} {n m next i : ℕ} (w : Walked s L P n m next i) whe
           back = λ x. w .back (joined (record { first = f; room = room; link = g; rest = x }));
           on = λ x. split (w .on x) .rest;
         }
-
--- the counts do not fit the rooms
-module _ (s L P : List ℕ) (n m : ℕ) where
-  pub no-link-room : length L / 4 < n → Decides false (Good (tableOf s L P n m))
-  no-link-room h = not-so (λ g. omega (arith, g .link-room))
-
-  pub no-param-room : length P / 5 < m → Decides false (Good (tableOf s L P n m))
-  no-param-room h = not-so (λ g. omega (arith, g .param-room))

@@ -11,48 +11,45 @@ use Rattle.grammar.specs.Link.{Param}
 use Rattle.grammar.specs.Kept.{nameOf, among, isOnce, codeOf}
 use Rattle.tables.specs.Table.{paramAt, paramsFrom}
 use Rattle.tables.specs.Good.{Each, each-none, each-more, onceEach, GoodParam}
-use Rattle.names.specs.Holds.{Holds, noneSeen, hasCode, withCode}
+use Rattle.tables.proofs.InGood.{head-of, tail-of}
+use Rattle.names.specs.Remembers.{Remembers, noneSeen, hasCode, withCode}
 use Rattle.names.specs.declared.Seen.{Seen}
 use Rattle.names.proofs.Seeing.{nothing-seen, has-told, seen-with}
-use Rattle.table_check.specs.Decides.{Decides}
-use Rattle.table_check.specs.Parts.{GoodParams}
-use Rattle.table_check.proofs.Deciding.{is-so, not-so}
-
-pub first-of : {A : Type 0} {X : A → Type 0} {x : A} {xs : List A} → Each X (x ∷ xs) → X x × Each X xs
-first-of (each-more p ps) = (p, ps)
+use Rattle.part_check.specs.Decides.{Decides}
+use Rattle.table_check.specs.Params.{GoodParams}
+use Rattle.part_check.proofs.Deciding.{is-so, not-so}
 
 -- the parameter p repeats one of the six names
 abbrev repeats : List ℕ → List (List ℕ) → Param → Bool
 repeats s earlier p = isOnce (nameOf s p) && among earlier (nameOf s p)
 
-record Split (s : List ℕ) (earlier : List (List ℕ)) (p : Param) (ps : List Param) : Type 0 where
+record FirstParam (s : List ℕ) (earlier : List (List ℕ)) (p : Param) (ps : List Param) : Type 0 where
   good : GoodParam s p
   new : repeats s earlier p ≡ false
   rest : GoodParams s (nameOf s p ∷ earlier) ps
 
 module _ {s : List ℕ} {earlier : List (List ℕ)} {p : Param} {ps : List Param} where
-  split : GoodParams s earlier (p ∷ ps) → Split s earlier p ps
+  split : GoodParams s earlier (p ∷ ps) → FirstParam s earlier p ps
   split g =
-      let e = first-of (g .each) in
       let o = both (not (repeats s earlier p)) (onceEach s (nameOf s p ∷ earlier) ps) (g .once) in
-      record { good = e .0; new = not-true (repeats s earlier p) (o .0); rest = record { each = e .1; once = o .1 } }
+      record { good = head-of (g .each); new = not-true (repeats s earlier p) (o .0); rest = record { each = tail-of (g .each); once = o .1 } }
 
-  joined : Split s earlier p ps → GoodParams s earlier (p ∷ ps)
+  joined : FirstParam s earlier p ps → GoodParams s earlier (p ∷ ps)
   joined g = record { each = each-more (g .good) (g .rest .each); once = rw (g .new) (g .rest .once) }
 
 module _ (s P : List ℕ) (first count : ℕ) where
-  abbrev Left : List (List ℕ) → ℕ → Type 0
-  Left earlier k = GoodParams s earlier (paramsFrom P (first + k) (count - k))
+  abbrev ParamsLeft : List (List ℕ) → ℕ → Type 0
+  ParamsLeft earlier k = GoodParams s earlier (paramsFrom P (first + k) (count - k))
 
-  abbrev Whole : Type 0
-  Whole = GoodParams s [] (paramsFrom P first count)
+  abbrev AllParams : Type 0
+  AllParams = GoodParams s [] (paramsFrom P first count)
 
   pub record Checked (seen : Seen) (k : ℕ) : Type 0 where
     pub within : k ≤ count
     earlier : List (List ℕ)
-    seen-earlier : Holds seen earlier
-    back : Left earlier k → Whole
-    on : Whole → Left earlier k
+    seen-earlier : Remembers seen earlier
+    back : ParamsLeft earlier k → AllParams
+    on : AllParams → ParamsLeft earlier k
 
 module _ {s P : List ℕ} {first count : ℕ} where
   pub begin : {seen : Seen} → seen ≡ noneSeen → Checked s P first count seen 0
@@ -66,7 +63,7 @@ module _ {s P : List ℕ} {first count : ℕ} where
       }
 
   module _ {seen : Seen} {k : ℕ} (w : Checked s P first count seen k) where
-    pub through : count ≤ k → Decides true (Whole s P first count)
+    pub through : count ≤ k → Decides true (AllParams s P first count)
     through h =
         let z : count - k ≡ 0 = omega arith in is-so (w .back (rw z (record { each = each-none; once = refl })))
 
@@ -76,17 +73,17 @@ module _ {s P : List ℕ} {first count : ℕ} where
           let more : count - k ≡ suc (count - (k + 1)) = omega arith in
           let next : first + (k + 1) ≡ suc (first + k) = omega arith in rw (more, next, e)
 
-      apart : Whole s P first count → Split s (w .earlier) q (paramsFrom P (first + (k + 1)) (count - (k + 1)))
+      apart : AllParams s P first count → FirstParam s (w .earlier) q (paramsFrom P (first + (k + 1)) (count - (k + 1)))
       apart g = split (subst (GoodParams s (w .earlier)) front (w .on g))
 
-      pub bad-param : (GoodParam s q → ⊥) → Decides false (Whole s P first count)
+      pub bad-param : (GoodParam s q → ⊥) → Decides false (AllParams s P first count)
       bad-param n = not-so (λ g. n (apart g .good))
 
       module _ {c : ℕ} {r : Bool} (coded : c ≡ codeOf (nameOf s q)) (asked : r ≡ hasCode seen c) where
         told : r ≡ (isOnce (nameOf s q) && among (w .earlier) (nameOf s q))
         told = has-told (w .seen-earlier) (nameOf s q) coded asked
 
-        pub repeated : r ≡ true → Decides false (Whole s P first count)
+        pub repeated : r ≡ true → Decides false (AllParams s P first count)
         repeated t = not-so (λ g. false≢true (sym (apart g .new) ∙ sym told ∙ t))
 
         pub passed : {new : Seen} → r ≡ false → GoodParam s q → new ≡ withCode seen c → Checked s P first count new (k + 1)

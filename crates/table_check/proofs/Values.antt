@@ -8,8 +8,8 @@ use lib.Dec.{eqb}
 use Rattle.grammar.specs.Link.{Param}
 use Rattle.grammar.specs.Grammar.{Token, Inside}
 use Rattle.tables.specs.Good.{GoodValue, no-value, token-value, quoted-value}
-use Rattle.table_check.specs.Decides.{Decides}
-use Rattle.table_check.proofs.Deciding.{also, not-so, both, tests-eq}
+use Rattle.part_check.specs.Decides.{Decides}
+use Rattle.part_check.proofs.Deciding.{also, not-so, both, tests-eq}
 
 module _ {s : List ℕ} {p : Param} where
   -- what a good value of each form holds

@@ -1,3 +1,3 @@
 -- What the crate `table_check` means by its words.
-pub mod Decides
-pub mod Parts
+pub mod Params
+pub mod State

@@ -11,10 +11,10 @@ use Rattle.tables.specs.Good.{Each, each-more, Follows, GoodParam, GoodL
 
 -- ---- every record of a run of records
 
-head-of : {A : Type 0} {P : A → Type 0} {x : A} {xs : List A} → Each P (x ∷ xs) → P x
+pub head-of : {A : Type 0} {P : A → Type 0} {x : A} {xs : List A} → Each P (x ∷ xs) → P x
 head-of (each-more p r) = p
 
-tail-of : {A : Type 0} {P : A → Type 0} {x : A} {xs : List A} → Each P (x ∷ xs) → Each P xs
+pub tail-of : {A : Type 0} {P : A → Type 0} {x : A} {xs : List A} → Each P (x ∷ xs) → Each P xs
 tail-of (each-more p r) = r
 
 pub each-param : {Q : Param → Type 0} (P : List ℕ) (i n j : ℕ) → Each Q (paramsFrom P i n) → j < n → Q (paramAt P (i + j))
@@ -33,7 +33,7 @@ each-link {Q} L P i (suc n) (suc j) r l =
 
 -- ---- parameters that follow one another
 
-follows-le : (L : List ℕ) (i n at m : ℕ) → Follows L i n at m → at ≤ m
+pub follows-le : (L : List ℕ) (i n at m : ℕ) → Follows L i n at m → at ≤ m
 follows-le L i zero at m f = omega arith
 follows-le L i (suc n) at m f = omega (arith, follows-le L (suc i) n (at + countOf L i) m (f .1))
 

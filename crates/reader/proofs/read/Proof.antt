@@ -31,7 +31,12 @@ same-length-2 : tie.Need-same-length-2
 same-length-2 c = search needs
 
 returns-2 : tie.Need-returns-2
-returns-2 c = few-link-slots _ _ (c .before .before .before .before .before .before .before .before .before .before .if1 .left) (c .before .before .before .before .before .before .before .before .before .scan .ensures) (c .before .before .before .before .before .before .before .counts .given .1) (c .before .before .before .before .link-room .ensures) (c .if2 .taken)
+returns-2 c =
+    let b1 = c .before .before .before .before in
+    let b2 = b1 .before .before .before in
+    let b3 = b2 .before .before .before in
+    few-link-slots _ _ (b3 .if1 .left) (b2 .before .before .scan .ensures) (b2 .counts .given .1) (b1 .link-room .ensures)
+    (c .if2 .taken)
 
 same-length-3 : tie.Need-same-length-3
 same-length-3 c = search needs
@@ -40,13 +45,26 @@ same-length-4 : tie.Need-same-length-4
 same-length-4 c = search needs
 
 returns-3 : tie.Need-returns-3
-returns-3 c = few-param-slots _ _ (c .before .before .before .before .before .before .before .before .before .before .before .before .if1 .left) (c .before .before .before .before .before .before .before .before .before .before .before .scan .ensures) (c .before .before .before .before .before .before .before .before .before .counts .given .1) (c .before .before .before .before .before .before .link-room .ensures) (c .before .before .before .before .param-room .ensures) (c .before .before .if2 .left) (c .if3 .taken)
+returns-3 c =
+    let b1 = c .before .before .before .before in
+    let b2 = b1 .before .before .before .before .before in
+    let b3 = b2 .before .before .before in
+    few-param-slots _ _ (b3 .if1 .left) (b2 .before .before .scan .ensures) (b2 .counts .given .1)
+    (b1 .before .before .link-room .ensures) (b1 .param-room .ensures) (c .before .before .if2 .left) (c .if3 .taken)
 
 fill-requires : tie.Need-fill-requires
-fill-requires c κs = fits _ _ (c .before .before .before .before .before .before .before .before .before .before .before .before .before .before .if1 .left) (c .before .before .before .before .before .before .before .before .before .before .before .before .before .scan .ensures) (c .before .before .before .before .before .before .before .before .before .before .before .counts .given .1) (c .before .before .before .before .before .before .before .before .link-room .ensures) (c .before .before .before .before .before .before .param-room .ensures) (c .before .before .before .before .if2 .left) (c .before .before .if3 .left)
+fill-requires c κs =
+    let b1 = c .before .before .before .before in
+    let b2 = b1 .before .before .before .before in
+    let b3 = b2 .before .before .before in
+    let b4 = b3 .before .before .before in
+    fits _ _ (b4 .if1 .left) (b3 .before .before .scan .ensures) (b3 .counts .given .1) (b2 .link-room .ensures)
+    (b1 .before .before .param-room .ensures) (b1 .if2 .left) (c .before .before .if3 .left)
 
 returns-4 : tie.Need-returns-4
-returns-4 c = is-malformed _ _ (c .before .before .before .before .if1 .left) (c .before .before .before .scan .ensures) (c .before .p .given .1)
+returns-4 c =
+    let b1 = c .before .before .before in
+    is-malformed _ _ (b1 .before .if1 .left) (b1 .scan .ensures) (c .before .p .given .1)
 
 same-length-5 : tie.Need-same-length-5
 same-length-5 c = search needs
@@ -55,7 +73,15 @@ same-length-6 : tie.Need-same-length-6
 same-length-6 c = search needs
 
 returns-5 : tie.Need-returns-5
-returns-5 c = is-done _ _ (c .before .before .before .before .before .before .before .before .before .before .before .before .before .before .before .before .before .before .before .if1 .left) (c .before .before .before .before .before .before .before .before .before .before .before .before .before .before .before .before .before .before .scan .ensures) (c .before .before .before .before .before .before .before .before .before .before .before .before .before .before .before .before .counts .given .1) (c .before .before .before .before .before .before .before .before .before .before .before .before .before .link-room .ensures) (c .before .before .before .before .before .before .before .before .before .before .before .param-room .ensures) (c .before .before .before .before .before .before .before .before .before .if2 .left) (c .before .before .before .before .before .before .before .if3 .left) (c .before .before .before .before .fill .ensures)
+returns-5 c =
+    let b1 = c .before .before .before .before in
+    let b2 = b1 .before .before .before in
+    let b3 = b2 .before .before .before .before in
+    let b4 = b3 .before .before .before .before .before in
+    let b5 = b4 .before .before .before in
+    is-done _ _ (b5 .if1 .left) (b4 .before .before .scan .ensures) (b4 .counts .given .1)
+    (b3 .before .before .link-room .ensures) (b3 .param-room .ensures) (b2 .before .before .if2 .left) (b2 .if3 .left)
+    (b1 .fill .ensures)
 
 pub read-spec : {M : Type 1} → statement M
 read-spec =

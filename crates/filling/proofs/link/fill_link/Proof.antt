@@ -11,7 +11,9 @@ past-octet-requires : tie.Need-past-octet-requires
 past-octet-requires c κs = c .target-end .ensures .1 .inside
 
 fill-params-requires : tie.Need-fill-params-requires
-fill-params-requires c κs = before-params (c .before .before .before .before .before .before .pre) (c .before .before .target-end .ensures) (c .before .past-octet .ensures)
+fill-params-requires c κs =
+    let b1 = c .before .before .before .before .before .before in
+    before-params (b1 .pre) (c .before .before .target-end .ensures) (c .before .past-octet .ensures)
 
 span-to-requires : tie.Need-span-to-requires
 span-to-requires c κs = search needs
@@ -21,7 +23,9 @@ sub-t14 c = search needs
 
 put-link-requires : tie.Need-put-link-requires
 put-link-requires c κs =
-    link-room (c .before .before .before .before .before .before .before .before .before .before .before .before .before .pre) (c .before .before .before .before .before .before .before .before .before .target-end .ensures) (c .before .before .before .before .before .before .before .before .past-octet .ensures)
+    let b1 = c .before .before .before .before .before .before .before .before in
+    let b2 = b1 .before .before .before .before .before in
+    link-room (b2 .pre) (b1 .before .target-end .ensures) (b1 .past-octet .ensures)
 
 same-length : tie.Need-same-length
 same-length c = search needs
@@ -31,8 +35,12 @@ same-length-2 c = search needs
 
 returns : tie.Need-returns
 returns c =
-    link-filled (c .before .before .before .before .before .before .before .before .before .before .before .before .before .before .before .before .pre) (c .before .before .before .before .before .before .before .before .before .before .before .before .target-end .ensures) (c .before .before .before .before .before .before .before .before .before .before .before .past-octet .ensures)
-    (c .before .before .before .before .before .before .before .before .before .fill-params .ensures) (c .before .before .before .before .before .before .span-to .ensures) (c .before .before .put-link .ensures)
+    let b1 = c .before .before .before .before .before .before in
+    let b2 = b1 .before .before .before in
+    let b3 = b2 .before .before .before in
+    let b4 = b3 .before .before .before .before in
+    link-filled (b4 .pre) (b3 .target-end .ensures) (b2 .before .before .past-octet .ensures) (b2 .fill-params .ensures)
+    (b1 .span-to .ensures) (c .before .before .put-link .ensures)
 
 pub fill-link-spec : {M : Type 1} → statement M
 fill-link-spec =

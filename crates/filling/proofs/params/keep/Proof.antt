@@ -13,13 +13,17 @@ put-param-requires : tie.Need-put-param-requires
 put-param-requires c κs = (c .before .before .before .pre) (c .before .if1 .left)
 
 next-requires : tie.Need-next-requires
-next-requires c κs = omega (arith, (c .before .before .before .before .before .before .pre) (c .before .before .before .before .if1 .left), c .before .before .before .before .before .before .good .0 .0)
+next-requires c κs =
+    let b1 = c .before .before .before .before in
+    omega (arith, (b1 .before .before .pre) (b1 .if1 .left), b1 .before .before .good .0 .0)
 
 same-length : tie.Need-same-length
 same-length c = search needs
 
 returns-2 : tie.Need-returns-2
-returns-2 c = rw (c .before .before .before .before .before .if1 .left) (record { next = c .next .ensures; written = c .before .before .before .put-param .ensures })
+returns-2 c =
+    let b1 = c .before .before .before in
+    rw (b1 .before .before .if1 .left) (record { next = c .next .ensures; written = b1 .put-param .ensures })
 
 pub keep-spec : {M : Type 1} → statement M
 keep-spec = tie.close (tie.spec returns put-param-requires next-requires same-length returns-2)

@@ -25,8 +25,11 @@ span-to-requires-2 c κs = search needs
 
 returns : tie.Need-returns
 returns c =
-    flag-parsed (c .before .before .before .before .before .past-token .ensures) (has-name (c .before .before .before .before .before .before .before .pre) (c .before .before .before .before .before .past-token .ensures)) (c .before .before .before .past-blanks .ensures)
-    (c .before .before .before .before .span-to .ensures) (c .before .before .sees .ensures) (c .before .if1 .taken) (c .span-to2 .ensures) refl
+    let b1 = c .before .before .before in
+    let b2 = b1 .before .before .before .before in
+    flag-parsed (b1 .before .before .past-token .ensures) (has-name (b2 .pre) (b1 .before .before .past-token .ensures))
+    (b1 .past-blanks .ensures) (b1 .before .span-to .ensures) (c .before .before .sees .ensures) (c .before .if1 .taken)
+    (c .span-to2 .ensures) refl
 
 past-octet-requires : tie.Need-past-octet-requires
 past-octet-requires c κs = (c .before .sees .ensures .yes) (not-false (c .before .sees .result) (c .if1 .left)) .inside
@@ -50,9 +53,13 @@ read-value-requires c κs =
 
 returns-2 : tie.Need-returns-2
 returns-2 c =
-    valued-parsed (c .before .before .before .before .before .before .before .before .before .past-token .ensures) (has-name (c .before .before .before .before .before .before .before .before .before .before .before .pre) (c .before .before .before .before .before .before .before .before .before .past-token .ensures)) (c .before .before .before .before .before .before .before .past-blanks .ensures)
-    (c .before .before .before .before .before .before .before .before .span-to .ensures) ((c .before .before .before .before .before .before .sees .ensures .yes) (not-false (c .before .before .before .before .before .before .sees .result) (c .before .before .before .before .before .if1 .left))) (c .before .before .before .before .past-octet .ensures)
-    (c .before .before .before .past-blanks2 .ensures) (c .before .before .read-value .ensures) (refl, refl) refl
+    let b1 = c .before .before .before in
+    let b2 = b1 .before .before .before in
+    let b3 = b2 .before .before .before in
+    valued-parsed (b3 .past-token .ensures) (has-name (b3 .before .before .pre) (b3 .past-token .ensures))
+    (b2 .before .past-blanks .ensures) (b2 .before .before .span-to .ensures)
+    ((b2 .sees .ensures .yes) (not-false (b2 .sees .result) (b1 .before .before .if1 .left))) (b1 .before .past-octet .ensures)
+    (b1 .past-blanks2 .ensures) (c .before .before .read-value .ensures) (refl, refl) refl
 
 pub read-param-spec : {M : Type 1} → statement M
 read-param-spec =

@@ -24,8 +24,10 @@ past-octet-requires-2 c κs = c .before .inside-end .ensures .1 .inside
 
 returns : tie.Need-returns
 returns c =
-    quoted-parsed ((c .before .before .before .before .before .sees .ensures .yes) (c .before .before .before .before .if1 .taken)) (c .before .before .before .past-octet .ensures) (c .before .before .inside-end .ensures .0)
-    (c .before .before .inside-end .ensures .1) (c .before .span-to .ensures) (c .past-octet2 .ensures)
+    let b1 = c .before .before .before in
+    quoted-parsed ((b1 .before .before .sees .ensures .yes) (b1 .before .if1 .taken)) (b1 .past-octet .ensures)
+    (c .before .before .inside-end .ensures .0) (c .before .before .inside-end .ensures .1) (c .before .span-to .ensures)
+    (c .past-octet2 .ensures)
 
 past-token-requires : tie.Need-past-token-requires
 past-token-requires c κs = c .before .before .before .pre .clear .inside

@@ -14,7 +14,9 @@ past-token-requires : tie.Need-past-token-requires
 past-token-requires c κs = (c .before .pre) .inside
 
 returns : tie.Need-returns
-returns c = no-param (no-param-here (c .before .before .before .before .before .before .pre) (c .before .before .before .before .past-token .ensures) (c .before .if1 .taken))
+returns c =
+    let b1 = c .before .before .before .before in
+    no-param (no-param-here (b1 .before .before .pre) (b1 .past-token .ensures) (c .before .if1 .taken))
 
 span-to-requires : tie.Need-span-to-requires
 span-to-requires c κs = search needs
@@ -29,13 +31,23 @@ span-to-requires-2 : tie.Need-span-to-requires-2
 span-to-requires-2 c κs = search needs
 
 returns-2 : tie.Need-returns-2
-returns-2 c = a-param (flag-parsed (c .before .before .before .before .before .before .before .before .past-token .ensures) (c .before .before .before .before .before .if1 .left) (c .before .before .before .past-blanks .ensures) (c .before .before .before .before .span-to .ensures) (c .before .before .sees .ensures) (c .before .if2 .taken) (c .span-to2 .ensures) refl)
+returns-2 c =
+    let b1 = c .before .before .before in
+    let b2 = b1 .before .before .before .before .before in
+    a-param
+    (flag-parsed (b2 .past-token .ensures) (b1 .before .before .if1 .left) (b1 .past-blanks .ensures)
+    (b1 .before .span-to .ensures) (c .before .before .sees .ensures) (c .before .if2 .taken) (c .span-to2 .ensures) refl)
 
 past-octet-requires : tie.Need-past-octet-requires
 past-octet-requires c κs = ((c .before .sees .ensures .yes) (not-false (c .before .sees .result) (c .if2 .left))) .inside
 
 past-blanks-requires-2 : tie.Need-past-blanks-requires-2
-past-blanks-requires-2 c κs = omega (arith, (c .past-octet .ensures), ((c .before .before .sees .ensures .yes) (not-false (c .before .before .sees .result) (c .before .if2 .left))) .inside)
+past-blanks-requires-2 c κs =
+    omega (
+      arith,
+      c .past-octet .ensures,
+      ((c .before .before .sees .ensures .yes) (not-false (c .before .before .sees .result) (c .before .if2 .left))) .inside,
+    )
 
 past-value-requires : tie.Need-past-value-requires
 past-value-requires c κs = record { inside = (c .past-blanks2 .ensures .inside); clear = (c .past-blanks2 .ensures .stops) }
@@ -48,13 +60,25 @@ enum-known-value c = search needs
 
 returns-3 : tie.Need-returns-3
 returns-3 c =
-    value-stuck (c .before .before .before .before .before .before .before .before .before .before .before .before .before .past-token .ensures) (c .before .before .before .before .before .before .before .before .before .before .if1 .left) (c .before .before .before .before .before .before .before .before .past-blanks .ensures) ((c .before .before .before .before .before .before .before .sees .ensures .yes) (not-false (c .before .before .before .before .before .before .before .sees .result) (c .before .before .before .before .before .before .if2 .left)))
-    (c .before .before .before .before .before .past-octet .ensures) (c .before .before .before .before .past-blanks2 .ensures) (c .before .before .before .past-value .ensures) (c .before .p .given .1)
+    let b1 = c .before .before .before in
+    let b2 = b1 .before .before .before in
+    let b3 = b2 .before .before .before .before in
+    let b4 = b3 .before .before .before in
+    value-stuck (b4 .past-token .ensures) (b3 .if1 .left) (b2 .before .before .past-blanks .ensures)
+    ((b2 .before .sees .ensures .yes) (not-false (b2 .before .sees .result) (b2 .if2 .left)))
+    (b1 .before .before .past-octet .ensures) (b1 .before .past-blanks2 .ensures) (b1 .past-value .ensures)
+    (c .before .p .given .1)
 
 returns-4 : tie.Need-returns-4
 returns-4 c =
-    value-passed (c .before .before .before .before .before .before .before .before .before .before .before .before .before .past-token .ensures) (c .before .before .before .before .before .before .before .before .before .before .if1 .left) (c .before .before .before .before .before .before .before .before .past-blanks .ensures) ((c .before .before .before .before .before .before .before .sees .ensures .yes) (not-false (c .before .before .before .before .before .before .before .sees .result) (c .before .before .before .before .before .before .if2 .left)))
-    (c .before .before .before .before .before .past-octet .ensures) (c .before .before .before .before .past-blanks2 .ensures) (c .before .before .before .past-value .ensures) (c .before .value .given .1) (c .before .before .before .before .before .before .before .before .before .span-to .ensures) (refl, refl) refl
+    let b1 = c .before .before .before in
+    let b2 = b1 .before .before .before in
+    let b3 = b2 .before .before .before in
+    let b4 = b3 .before .before .before .before in
+    value-passed (b4 .past-token .ensures) (b3 .before .if1 .left) (b2 .before .before .past-blanks .ensures)
+    ((b2 .before .sees .ensures .yes) (not-false (b2 .before .sees .result) (b2 .if2 .left)))
+    (b1 .before .before .past-octet .ensures) (b1 .before .past-blanks2 .ensures) (b1 .past-value .ensures)
+    (c .before .value .given .1) (b3 .span-to .ensures) (refl, refl) refl
 
 pub past-param-spec : {M : Type 1} → statement M
 past-param-spec =

@@ -29,16 +29,19 @@ shared-slice-read-if2 c = search needs
 
 returns-2 : tie.Need-returns-2 Inv-loop μ-loop
 returns-2 c =
-    is-closed (since (c .before .before .before .before .before .past-target .ensures) (c .before .before .before .before .loop .inv)) (c .before .before .if1 .left) (c .if2 .taken)
+    let b1 = c .before .before .before .before in
+    is-closed (since (b1 .before .past-target .ensures) (b1 .loop .inv)) (c .before .before .if1 .left) (c .if2 .taken)
 
 shared-slice-read-if3 : tie.Need-shared-slice-read-if3 Inv-loop μ-loop
 shared-slice-read-if3 c = search needs
 
 returns-3 : tie.Need-returns-3 Inv-loop μ-loop
 returns-3 c =
+    let b1 = c .before .before .before .before in
+    let b2 = b1 .before .before .before in
     no-target
-    (no-octet (since (c .before .before .before .before .before .before .before .past-target .ensures) (c .before .before .before .before .before .before .loop .inv)) (c .before .before .before .before .if1 .left)
-    (c .before .before .if2 .left) (c .if3 .taken))
+    (no-octet (since (b2 .past-target .ensures) (b1 .before .before .loop .inv)) (b1 .if1 .left) (c .before .before .if2 .left)
+    (c .if3 .taken))
 
 past-octet-requires : tie.Need-past-octet-requires Inv-loop μ-loop
 past-octet-requires c κs = search needs
@@ -51,9 +54,12 @@ enum-known-p c = search needs
 
 returns-4 : tie.Need-returns-4 Inv-loop μ-loop
 returns-4 c =
+    let b1 = c .before .before .before in
+    let b2 = b1 .before .before .before .before .before .before in
+    let b3 = b2 .before .before .before in
     no-target
-    (no-triple (since (c .before .before .before .before .before .before .before .before .before .before .before .before .past-target .ensures) (c .before .before .before .before .before .before .before .before .before .before .before .loop .inv)) (c .before .before .before .before .before .before .before .before .before .if1 .left)
-    (c .before .before .before .before .before .if3 .left) (c .before .before .before .before .past-octet .ensures) (c .before .before .before .past-triple .ensures) (c .before .p .given .1))
+    (no-triple (since (b3 .past-target .ensures) (b2 .before .before .loop .inv)) (b2 .if1 .left) (b1 .before .before .if3 .left)
+    (b1 .before .past-octet .ensures) (b1 .past-triple .ensures) (c .before .p .given .1))
 
 enum-known-d : tie.Need-enum-known-d Inv-loop μ-loop
 enum-known-d c = search needs
@@ -74,8 +80,10 @@ loop-less c =
 
 loop-again : tie.Need-loop-again Inv-loop μ-loop
 loop-again c =
-    more (c .before .before .before .before .before .before .before .before .before .before .before .before .loop .inv) (c .before .before .before .before .before .before .before .before .before .before .if1 .left) (c .before .before .before .before .before .before .if3 .left) (c .before .before .before .before .before .past-octet .ensures)
-    (c .before .before .before .before .past-triple .ensures) (c .before .before .d .given .1) (c .past-target2 .ensures)
+    let b1 = c .before .before .before .before in
+    let b2 = b1 .before .before .before .before .before .before in
+    more (b2 .before .before .loop .inv) (b2 .if1 .left) (b1 .before .before .if3 .left) (b1 .before .past-octet .ensures)
+    (b1 .past-triple .ensures) (c .before .before .d .given .1) (c .past-target2 .ensures)
 
 pub past-target-spec : {M : Type 1} → statement M
 past-target-spec =

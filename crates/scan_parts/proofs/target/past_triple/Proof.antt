@@ -27,9 +27,10 @@ past-octet-requires c κs = search needs
 
 returns-3 : tie.Need-returns-3
 returns-3 c =
+    let b1 = c .before .before .before in
+    let b2 = b1 .before .before .before in
     no-digit
-    (second-missing _ _
-    (hex-at (c .before .before .before .before .before .before .if1 .left) (c .before .before .before .before .is-hex .ensures) (c .before .before .before .if2 .left))
+    (second-missing _ _ (hex-at (b2 .if1 .left) (b1 .before .is-hex .ensures) (b1 .if2 .left))
     (c .before .before .past-octet .ensures) (c .if3 .taken))
 
 shared-slice-read-is-hex-2 : tie.Need-shared-slice-read-is-hex-2
@@ -40,22 +41,24 @@ is-hex-requires-2 c κs = search needs
 
 returns-4 : tie.Need-returns-4
 returns-4 c =
+    let b1 = c .before .before .before in
+    let b2 = b1 .before .before .before in
+    let b3 = b2 .before .before .before in
     no-digit
-    (second-wrong _ _
-    (hex-at (c .before .before .before .before .before .before .before .before .before .if1 .left) (c .before .before .before .before .before .before .before .is-hex .ensures) (c .before .before .before .before .before .before .if2 .left))
-    (c .before .before .before .before .before .past-octet .ensures) (c .before .before .before .if3 .left)
-    (sym (c .before .is-hex2 .ensures) ∙ not-true (c .before .is-hex2 .result) (c .if4 .taken)))
+    (second-wrong _ _ (hex-at (b3 .if1 .left) (b2 .before .is-hex .ensures) (b2 .if2 .left))
+    (b1 .before .before .past-octet .ensures) (b1 .if3 .left) (sym (c .before .is-hex2 .ensures) ∙ not-true
+    (c .before .is-hex2 .result) (c .if4 .taken)))
 
 past-octet-requires-2 : tie.Need-past-octet-requires-2
 past-octet-requires-2 c κs = search needs
 
 returns-5 : tie.Need-returns-5
 returns-5 c =
-    both-there
-    (hex-at (c .before .before .before .before .before .before .before .before .before .before .if1 .left) (c .before .before .before .before .before .before .before .before .is-hex .ensures) (c .before .before .before .before .before .before .before .if2 .left))
-    (c .before .before .before .before .before .before .past-octet .ensures)
-    (hex-at (c .before .before .before .before .if3 .left) (c .before .before .is-hex2 .ensures) (c .before .if4 .left))
-    (c .past-octet2 .ensures)
+    let b1 = c .before .before .before .before in
+    let b2 = b1 .before .before .before in
+    let b3 = b2 .before .before .before in
+    both-there (hex-at (b3 .if1 .left) (b2 .before .is-hex .ensures) (b2 .if2 .left)) (b1 .before .before .past-octet .ensures)
+    (hex-at (b1 .if3 .left) (c .before .before .is-hex2 .ensures) (c .before .if4 .left)) (c .past-octet2 .ensures)
 
 pub past-triple-spec : {M : Type 1} → statement M
 past-triple-spec =

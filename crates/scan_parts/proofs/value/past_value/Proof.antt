@@ -15,7 +15,8 @@ past-octet-requires : tie.Need-past-octet-requires
 past-octet-requires c κs = ((c .before .sees .ensures .yes) (c .if1 .taken)) .inside
 
 past-inside-requires : tie.Need-past-inside-requires
-past-inside-requires c κs = omega (arith, (c .past-octet .ensures), ((c .before .before .sees .ensures .yes) (c .before .if1 .taken)) .inside)
+past-inside-requires c κs =
+    omega (arith, (c .past-octet .ensures), ((c .before .before .sees .ensures .yes) (c .before .if1 .taken)) .inside)
 
 enum-known-p : tie.Need-enum-known-p
 enum-known-p c = search needs
@@ -27,27 +28,42 @@ span-to-requires : tie.Need-span-to-requires
 span-to-requires c κs = search needs
 
 past-octet-requires-2 : tie.Need-past-octet-requires-2
-past-octet-requires-2 c κs = quote-inside (c .before .before .before .before .past-inside .ensures) (c .before .before .q .given .1)
+past-octet-requires-2 c κs =
+    let b1 = c .before .before .before .before in
+    quote-inside (b1 .past-inside .ensures) (c .before .before .q .given .1)
 
 returns : tie.Need-returns
-returns c = quote-stuck ((c .before .before .before .before .before .before .sees .ensures .yes) (c .before .before .before .before .before .if1 .taken)) (c .before .before .before .before .past-octet .ensures) (c .before .before .before .past-inside .ensures) (c .before .p .given .1)
+returns c =
+    let b1 = c .before .before .before in
+    let b2 = b1 .before .before .before in
+    quote-stuck ((b2 .sees .ensures .yes) (b1 .before .before .if1 .taken)) (b1 .before .past-octet .ensures)
+    (b1 .past-inside .ensures) (c .before .p .given .1)
 
 returns-2 : tie.Need-returns-2
 returns-2 c =
-    quote-passed ((c .before .before .before .before .before .before .before .before .sees .ensures .yes) (c .before .before .before .before .before .before .before .if1 .taken)) (c .before .before .before .before .before .before .past-octet .ensures) (c .before .before .before .before .before .past-inside .ensures) (c .before .before .before .q .given .1) (c .before .span-to .ensures)
-    (c .past-octet2 .ensures)
+    let b1 = c .before .before .before in
+    let b2 = b1 .before .before .before in
+    quote-passed ((b2 .before .before .sees .ensures .yes) (b2 .before .if1 .taken)) (b2 .past-octet .ensures)
+    (b1 .before .before .past-inside .ensures) (b1 .q .given .1) (c .before .span-to .ensures) (c .past-octet2 .ensures)
 
 past-token-requires : tie.Need-past-token-requires
 past-token-requires c κs = (c .before .before .before .pre) .inside
 
 returns-3 : tie.Need-returns-3
-returns-3 c = no-value (no-value-here (c .before .before .before .before .before .before .before .before .pre) ((c .before .before .before .before .before .before .sees .ensures .not) (c .before .before .before .before .before .if1 .left)) (c .before .before .before .before .past-token .ensures) (c .before .if2 .taken))
+returns-3 c =
+    let b1 = c .before .before .before .before in
+    let b2 = b1 .before .before .before .before in
+    no-value
+    (no-value-here (b2 .pre) ((b1 .before .before .sees .ensures .not) (b1 .before .if1 .left)) (b1 .past-token .ensures)
+    (c .before .if2 .taken))
 
 span-to-requires-2 : tie.Need-span-to-requires-2
 span-to-requires-2 c κs = search needs
 
 returns-4 : tie.Need-returns-4
-returns-4 c = a-value (token-parsed (c .before .before .before .before .past-token .ensures) (c .before .if2 .left) (c .span-to2 .ensures))
+returns-4 c =
+    let b1 = c .before .before .before .before in
+    a-value (token-parsed (b1 .past-token .ensures) (c .before .if2 .left) (c .span-to2 .ensures))
 
 pub past-value-spec : {M : Type 1} → statement M
 past-value-spec =

@@ -33,16 +33,25 @@ past-octet-requires : tie.Need-past-octet-requires Inv-loop μ-loop
 past-octet-requires c κs = ((c .before .sees .ensures .yes) (c .if2 .taken)) .inside
 
 loop-less : tie.Need-loop-less Inv-loop μ-loop
-loop-less c = omega (arith, (c .past-octet .ensures), (c .before .before .before .before .before .past-blanks .ensures .forward), (c .before .before .before .if1 .left))
+loop-less c =
+    let b1 = c .before .before .before in
+    omega (arith, (c .past-octet .ensures), (b1 .before .before .past-blanks .ensures .forward), (b1 .if1 .left))
 
 loop-again : tie.Need-loop-again Inv-loop μ-loop
-loop-again c = comma (c .before .before .before .before .before .before .loop .inv) (c .before .before .before .before .before .past-blanks .ensures) ((c .before .before .sees .ensures .yes) (c .before .if2 .taken)) (c .past-octet .ensures)
+loop-again c =
+    let b1 = c .before .before .before .before .before in
+    comma (b1 .before .loop .inv) (b1 .past-blanks .ensures) ((c .before .before .sees .ensures .yes) (c .before .if2 .taken))
+    (c .past-octet .ensures)
 
 sees-requires-2 : tie.Need-sees-requires-2 Inv-loop μ-loop
 sees-requires-2 c κs = search needs
 
 returns-2 : tie.Need-returns-2 Inv-loop μ-loop
-returns-2 c = no-start (c .before .before .before .before .before .before .before .before .loop .inv) (c .before .before .before .before .before .before .before .past-blanks .ensures) (c .before .before .before .before .before .if1 .left) (c .before .before .before .before .sees .ensures) (c .before .before .before .if2 .left) (c .before .before .sees2 .ensures) (c .before .if3 .taken)
+returns-2 c =
+    let b1 = c .before .before .before in
+    let b2 = b1 .before .before .before .before in
+    no-start (b2 .before .loop .inv) (b2 .past-blanks .ensures) (b1 .before .before .if1 .left) (b1 .before .sees .ensures)
+    (b1 .if2 .left) (c .before .before .sees2 .ensures) (c .before .if3 .taken)
 
 past-octet-requires-2 : tie.Need-past-octet-requires-2 Inv-loop μ-loop
 past-octet-requires-2 c κs = search needs
@@ -55,50 +64,89 @@ enum-known-p c = search needs
 
 returns-3 : tie.Need-returns-3 Inv-loop μ-loop
 returns-3 c =
-    link-stuck (c .before .before .before .before .before .before .before .before .before .before .before .before .loop .inv) (c .before .before .before .before .before .before .before .before .before .before .before .past-blanks .ensures) ((c .before .before .before .before .before .before .sees2 .ensures .yes) (not-false (c .before .before .before .before .before .before .sees2 .result) (c .before .before .before .before .before .if3 .left))) (c .before .before .before .before .past-octet2 .ensures)
-    (c .before .before .before .past-link .ensures) (c .before .p .given .1)
+    let b1 = c .before .before .before in
+    let b2 = b1 .before .before .before in
+    let b3 = b2 .before .before .before .before .before in
+    link-stuck (b3 .before .loop .inv) (b3 .past-blanks .ensures)
+    ((b2 .sees2 .ensures .yes) (not-false (b2 .sees2 .result) (b1 .before .before .if3 .left))) (b1 .before .past-octet2 .ensures)
+    (b1 .past-link .ensures) (c .before .p .given .1)
 
 enum-known-d : tie.Need-enum-known-d Inv-loop μ-loop
 enum-known-d c = search needs
 
 add-counts : tie.Need-add-counts Inv-loop μ-loop
-add-counts c = omega (arith, (c .before .before .before .before .before .before .before .before .before .before .before .before .before .loop .inv .few-links), (c .before .before .before .before .before .before .before .before .before .before .before .before .before .loop .inv .stands .inside), (c .before .before .before .before .before .before .before .before .before .before .before .before .past-blanks .ensures .forward), (c .before .before .before .before .before .before .before .before .before .before .if1 .left), (c .before .before .before .before .before .before .before .before .before .before .before .before .before .before .before .before .good .0 .0))
+add-counts c =
+    let b1 = c .before .before .before .before .before .before .before .before .before .before in
+    let b2 = b1 .before .before .before in
+    let b3 = b2 .before .before .before in
+    omega (
+      arith,
+      b2 .loop .inv .few-links,
+      b2 .loop .inv .stands .inside,
+      b1 .before .before .past-blanks .ensures .forward,
+      b1 .if1 .left,
+      b3 .good .0 .0,
+    )
 
 add-counts-2 : tie.Need-add-counts-2 Inv-loop μ-loop
 add-counts-2 c =
+    let b1 = c .before .before .before in
+    let b2 = b1 .before .before .before in
+    let b3 = b2 .before .before .before .before .before .before .before in
+    let b4 = b3 .before .before .before .before in
+    let w = whole-forward (b3 .before .loop .inv) (b3 .past-blanks .ensures)
+    ((b2 .before .before .sees2 .ensures .yes) (not-false (b2 .before .before .sees2 .result) (b2 .before .if3 .left)))
+    (b2 .past-octet2 .ensures) (b1 .before .before .past-link .ensures) (b1 .d .given .1)
+    in
     omega (
       arith,
-      (c .before .before .before .before .before .before .before .before .before .before .before .before .before .before .loop .inv .few-params),
-      (c .before .before .before .before .before .before .before .before .before .before .before .before .before .past-blanks .ensures .forward),
-      (c .before .before .before .before .before .before .past-octet2 .ensures),
-      whole-forward (c .before .before .before .before .before .before .before .before .before .before .before .before .before .before .loop .inv) (c .before .before .before .before .before .before .before .before .before .before .before .before .before .past-blanks .ensures) ((c .before .before .before .before .before .before .before .before .sees2 .ensures .yes) (not-false (c .before .before .before .before .before .before .before .before .sees2 .result) (c .before .before .before .before .before .before .before .if3 .left))) (c .before .before .before .before .before .before .past-octet2 .ensures) (c .before .before .before .before .before .past-link .ensures) (c .before .before .before .d .given .1) .0,
-      whole-forward (c .before .before .before .before .before .before .before .before .before .before .before .before .before .before .loop .inv) (c .before .before .before .before .before .before .before .before .before .before .before .before .before .past-blanks .ensures) ((c .before .before .before .before .before .before .before .before .sees2 .ensures .yes) (not-false (c .before .before .before .before .before .before .before .before .sees2 .result) (c .before .before .before .before .before .before .before .if3 .left))) (c .before .before .before .before .before .before .past-octet2 .ensures) (c .before .before .before .before .before .past-link .ensures) (c .before .before .before .d .given .1) .1,
-      (c .before .before .before .before .before .before .before .before .before .before .before .before .before .before .before .before .before .good .0 .0),
+      b3 .before .loop .inv .few-params,
+      b3 .past-blanks .ensures .forward,
+      b2 .past-octet2 .ensures,
+      w .0,
+      w .1,
+      b4 .good .0 .0,
     )
 
 returns-4 : tie.Need-returns-4 Inv-loop μ-loop
 returns-4 c =
-    link-ended (c .before .before .before .before .before .before .before .before .before .before .before .before .before .before .before .before .loop .inv) (c .before .before .before .before .before .before .before .before .before .before .before .before .before .before .before .past-blanks .ensures) ((c .before .before .before .before .before .before .before .before .before .before .sees2 .ensures .yes) (not-false (c .before .before .before .before .before .before .before .before .before .before .sees2 .result) (c .before .before .before .before .before .before .before .before .before .if3 .left))) (c .before .before .before .before .before .before .before .before .past-octet2 .ensures)
-    (c .before .before .before .before .before .before .before .past-link .ensures) (c .before .before .before .before .before .d .given .1) (c .if4 .taken)
+    let b1 = c .before .before .before .before .before in
+    let b2 = b1 .before .before .before in
+    let b3 = b2 .before .before .before .before .before .before .before in
+    link-ended (b3 .before .loop .inv) (b3 .past-blanks .ensures)
+    ((b2 .before .before .sees2 .ensures .yes) (not-false (b2 .before .before .sees2 .result) (b2 .before .if3 .left)))
+    (b2 .past-octet2 .ensures) (b1 .before .before .past-link .ensures) (b1 .d .given .1) (c .if4 .taken)
 
 past-octet-requires-3 : tie.Need-past-octet-requires-3 Inv-loop μ-loop
 past-octet-requires-3 c κs = search needs
 
 loop-less-2 : tie.Need-loop-less-2 Inv-loop μ-loop
 loop-less-2 c =
+    let b1 = c .before .before .before .before .before .before in
+    let b2 = b1 .before .before .before in
+    let b3 = b2 .before .before .before .before .before .before .before in
+    let w = whole-forward (b3 .before .loop .inv) (b3 .past-blanks .ensures)
+    ((b2 .before .before .sees2 .ensures .yes) (not-false (b2 .before .before .sees2 .result) (b2 .before .if3 .left)))
+    (b2 .past-octet2 .ensures) (b1 .before .before .past-link .ensures) (b1 .d .given .1)
+    in
     omega (
       arith,
-      (c .past-octet3 .ensures),
-      (c .before .before .before .before .before .before .before .before .before .before .before .before .before .before .before .before .past-blanks .ensures .forward),
-      (c .before .before .before .before .before .before .before .before .before .past-octet2 .ensures),
-      whole-forward (c .before .before .before .before .before .before .before .before .before .before .before .before .before .before .before .before .before .loop .inv) (c .before .before .before .before .before .before .before .before .before .before .before .before .before .before .before .before .past-blanks .ensures) ((c .before .before .before .before .before .before .before .before .before .before .before .sees2 .ensures .yes) (not-false (c .before .before .before .before .before .before .before .before .before .before .before .sees2 .result) (c .before .before .before .before .before .before .before .before .before .before .if3 .left))) (c .before .before .before .before .before .before .before .before .before .past-octet2 .ensures) (c .before .before .before .before .before .before .before .before .past-link .ensures) (c .before .before .before .before .before .before .d .given .1) .0,
-      (c .before .if4 .left),
+      c .past-octet3 .ensures,
+      b3 .past-blanks .ensures .forward,
+      b2 .past-octet2 .ensures,
+      w .0,
+      c .before .if4 .left,
     )
 
 loop-again-2 : tie.Need-loop-again-2 Inv-loop μ-loop
 loop-again-2 c =
-    more (c .before .before .before .before .before .before .before .before .before .before .before .before .before .before .before .before .before .loop .inv) (c .before .before .before .before .before .before .before .before .before .before .before .before .before .before .before .before .past-blanks .ensures) ((c .before .before .before .before .before .before .before .before .before .before .before .sees2 .ensures .yes) (not-false (c .before .before .before .before .before .before .before .before .before .before .before .sees2 .result) (c .before .before .before .before .before .before .before .before .before .before .if3 .left))) (c .before .before .before .before .before .before .before .before .before .past-octet2 .ensures)
-    (c .before .before .before .before .before .before .before .before .past-link .ensures) (c .before .before .before .before .before .before .d .given .1) (c .before .if4 .left) (c .past-octet3 .ensures)
+    let b1 = c .before .before .before .before .before .before in
+    let b2 = b1 .before .before .before in
+    let b3 = b2 .before .before .before .before .before .before .before in
+    more (b3 .before .loop .inv) (b3 .past-blanks .ensures)
+    ((b2 .before .before .sees2 .ensures .yes) (not-false (b2 .before .before .sees2 .result) (b2 .before .if3 .left)))
+    (b2 .past-octet2 .ensures) (b1 .before .before .past-link .ensures) (b1 .d .given .1) (c .before .if4 .left)
+    (c .past-octet3 .ensures)
 
 pub scan-spec : {M : Type 1} → statement M
 scan-spec =

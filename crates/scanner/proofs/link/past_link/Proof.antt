@@ -18,13 +18,18 @@ past-octet-requires : tie.Need-past-octet-requires
 past-octet-requires c κs = target-inside (c .before .before .before .past-target .ensures) (c .before .c .given .1)
 
 past-params-requires : tie.Need-past-params-requires
-past-params-requires c κs = omega (arith, (c .past-octet .ensures), target-inside (c .before .before .before .before .past-target .ensures) (c .before .before .c .given .1))
+past-params-requires c κs =
+    let b1 = c .before .before .before .before in
+    omega (arith, (c .past-octet .ensures), target-inside (b1 .past-target .ensures) (c .before .before .c .given .1))
 
 returns : tie.Need-returns
 returns c = target-stuck (c .before .before .before .past-target .ensures) (c .before .p .given .1)
 
 returns-2 : tie.Need-returns-2
-returns-2 c = target-passed (c .before .before .before .before .before .past-target .ensures) (c .before .before .before .c .given .1) (c .before .past-octet .ensures) (c .past-params .ensures)
+returns-2 c =
+    let b1 = c .before .before .before in
+    target-passed (b1 .before .before .past-target .ensures) (b1 .c .given .1) (c .before .past-octet .ensures)
+    (c .past-params .ensures)
 
 pub past-link-spec : {M : Type 1} → statement M
 past-link-spec =

@@ -33,13 +33,19 @@ sees-requires : tie.Need-sees-requires Inv-loop μ-loop
 sees-requires c κs = search needs
 
 returns-2 : tie.Need-returns-2 Inv-loop μ-loop
-returns-2 c = params-ended (c .before .before .before .before .before .loop .inv .1) (c .before .before .before .before .past-blanks .ensures) (inr ((c .before .sees .ensures .yes) (c .if2 .taken)))
+returns-2 c =
+    let b1 = c .before .before .before .before in
+    params-ended (b1 .before .loop .inv .1) (b1 .past-blanks .ensures) (inr ((c .before .sees .ensures .yes) (c .if2 .taken)))
 
 sees-requires-2 : tie.Need-sees-requires-2 Inv-loop μ-loop
 sees-requires-2 c κs = search needs
 
 returns-3 : tie.Need-returns-3 Inv-loop μ-loop
-returns-3 c = neither (c .before .before .before .before .before .before .before .before .loop .inv .1) (c .before .before .before .before .before .before .before .past-blanks .ensures) (c .before .before .before .before .before .if1 .left) (c .before .before .before .before .sees .ensures) (c .before .before .before .if2 .left) (c .before .before .sees2 .ensures) (c .before .if3 .taken)
+returns-3 c =
+    let b1 = c .before .before .before in
+    let b2 = b1 .before .before .before .before in
+    neither (b2 .before .loop .inv .1) (b2 .past-blanks .ensures) (b1 .before .before .if1 .left) (b1 .before .sees .ensures)
+    (b1 .if2 .left) (c .before .before .sees2 .ensures) (c .before .if3 .taken)
 
 past-octet-requires : tie.Need-past-octet-requires Inv-loop μ-loop
 past-octet-requires c κs = search needs
@@ -55,8 +61,13 @@ enum-known-p c = search needs
 
 returns-4 : tie.Need-returns-4 Inv-loop μ-loop
 returns-4 c =
-    param-stuck (c .before .before .before .before .before .before .before .before .before .before .before .before .before .loop .inv .1) (c .before .before .before .before .before .before .before .before .before .before .before .before .past-blanks .ensures) ((c .before .before .before .before .before .before .before .sees2 .ensures .yes) (not-false (c .before .before .before .before .before .before .before .sees2 .result) (c .before .before .before .before .before .before .if3 .left))) (c .before .before .before .before .before .past-octet .ensures)
-    (c .before .before .before .before .past-blanks2 .ensures) (c .before .before .before .past-param .ensures) (c .before .p .given .1)
+    let b1 = c .before .before .before in
+    let b2 = b1 .before .before .before in
+    let b3 = b2 .before .before .before .before .before .before in
+    param-stuck (b3 .before .loop .inv .1) (b3 .past-blanks .ensures)
+    ((b2 .before .sees2 .ensures .yes) (not-false (b2 .before .sees2 .result) (b2 .if3 .left)))
+    (b1 .before .before .past-octet .ensures) (b1 .before .past-blanks2 .ensures) (b1 .past-param .ensures)
+    (c .before .p .given .1)
 
 enum-known-r : tie.Need-enum-known-r Inv-loop μ-loop
 enum-known-r c = search needs
@@ -68,29 +79,49 @@ has-requires : tie.Need-has-requires Inv-loop μ-loop
 has-requires c κs = search needs
 
 counted-requires : tie.Need-counted-requires Inv-loop μ-loop
-counted-requires c κs = omega (arith, few-so-far (c .before .before .before .before .before .before .before .before .before .before .before .before .before .before .before .before .loop .inv .1), (c .before .before .before .before .before .before .before .before .before .before .before .before .before .before .before .past-blanks .ensures .forward), (c .before .before .before .before .before .before .before .before .before .before .before .before .before .if1 .left), (c .before .before .before .before .before .before .before .before .before .before .before .before .before .before .before .before .before .before .before .good .0 .0))
+counted-requires c κs =
+    let b1 = c .before .before .before .before .before .before .before .before .before .before .before .before .before in
+    let b2 = b1 .before .before .before in
+    let b3 = b2 .before .before .before in
+    omega (
+      arith,
+      few-so-far (b2 .loop .inv .1),
+      b1 .before .before .past-blanks .ensures .forward,
+      b1 .if1 .left,
+      b3 .good .0 .0,
+    )
 
 with-requires : tie.Need-with-requires Inv-loop μ-loop
 with-requires c κs = search needs
 
 loop-less : tie.Need-loop-less Inv-loop μ-loop
 loop-less c =
+    let b1 = c .before .before .before .before .before .before in
+    let b2 = b1 .before .before .before in
+    let b3 = b2 .before .before .before .before .before .before in
     omega (
       arith,
-      param-inside (c .before .before .before .before .before .before .before .before .past-param .ensures) (c .before .before .before .before .before .before .r .given .1) .0,
-      param-inside (c .before .before .before .before .before .before .before .before .past-param .ensures) (c .before .before .before .before .before .before .r .given .1) .1,
-      (c .before .before .before .before .before .before .before .before .before .before .before .before .before .before .before .before .before .past-blanks .ensures .forward),
-      (c .before .before .before .before .before .before .before .before .before .before .past-octet .ensures),
-      (c .before .before .before .before .before .before .before .before .before .past-blanks2 .ensures .forward),
-      (c .before .before .before .before .before .before .before .before .before .before .before .before .before .before .before .if1 .left),
+      param-inside (b1 .before .before .past-param .ensures) (b1 .r .given .1) .0,
+      param-inside (b1 .before .before .past-param .ensures) (b1 .r .given .1) .1,
+      b3 .before .before .past-blanks .ensures .forward,
+      b2 .before .past-octet .ensures,
+      b2 .past-blanks2 .ensures .forward,
+      b3 .if1 .left,
     )
 
 loop-again : tie.Need-loop-again Inv-loop μ-loop
-loop-again c = (
-  _,
-  more (c .before .before .before .before .before .before .before .before .before .before .before .before .before .before .before .before .before .before .loop .inv .1) (c .before .before .before .before .before .before .before .before .before .before .before .before .before .before .before .before .before .past-blanks .ensures) ((c .before .before .before .before .before .before .before .before .before .before .before .before .sees2 .ensures .yes) (not-false (c .before .before .before .before .before .before .before .before .before .before .before .before .sees2 .result) (c .before .before .before .before .before .before .before .before .before .before .before .if3 .left))) (c .before .before .before .before .before .before .before .before .before .before .past-octet .ensures)
-      (c .before .before .before .before .before .before .before .before .before .past-blanks2 .ensures) (c .before .before .before .before .before .before .before .before .past-param .ensures) (c .before .before .before .before .before .before .r .given .1) (c .before .before .before .code .ensures) (c .before .before .has .ensures) (c .before .counted .ensures) (c .with .ensures),
-)
+loop-again c =
+    let b1 = c .before .before .before in
+    let b2 = b1 .before .before .before in
+    let b3 = b2 .before .before .before in
+    let b4 = b3 .before .before .before in
+    let b5 = b4 .before .before .before .before .before in (
+      _,
+      more (b5 .before .loop .inv .1) (b5 .past-blanks .ensures) ((b4 .sees2 .ensures .yes) (not-false (b4 .sees2 .result)
+          (b3 .before .before .if3 .left))) (b3 .before .past-octet .ensures) (b3 .past-blanks2 .ensures)
+          (b2 .before .before .past-param .ensures) (b2 .r .given .1) (b1 .code .ensures) (c .before .before .has .ensures)
+          (c .before .counted .ensures) (c .with .ensures),
+    )
 
 pub past-params-spec : {M : Type 1} → statement M
 past-params-spec =

@@ -39,8 +39,7 @@ returns c =
     bad-param (loop′ .inv) (loop-test′ .taken) told (c .before .is-good-param .ensures .fails (not-true _ (c .if1 .taken)))
 
 code-requires : tie.Need-code-requires Inv-loop μ-loop
-code-requires c κs =
-    let h = c .before .is-good-param .ensures .holds (not-false _ (c .if1 .left)) .name-span in (h .ordered, h .inside)
+code-requires c κs = c .before .before .is-good-param .ensures .holds (not-false _ (c .before .if1 .left)) .name-span
 
 has-requires : tie.Need-has-requires Inv-loop μ-loop
 has-requires c κs = search needs
@@ -48,10 +47,10 @@ has-requires c κs = search needs
 returns-2 : tie.Need-returns-2 Inv-loop μ-loop
 unfolding nameOf
 returns-2 c =
-    let loop′ = c .before .before .before .before .before .before .before .before .loop in
-    let loop-test′ = c .before .before .before .before .before .before .before .loop-test in
-    let plus′ = c .before .before .before .before .before .before .plus in
-    let param-at′ = c .before .before .before .before .before .param-at in
+    let loop′ = c .before .before .before .before .before .before .before .before .before .loop in
+    let loop-test′ = c .before .before .before .before .before .before .before .before .loop-test in
+    let plus′ = c .before .before .before .before .before .before .before .plus in
+    let param-at′ = c .before .before .before .before .before .before .param-at in
     let code′ = c .before .before .code in
     let told = rw (plus′ .ensures) at (param-at′ .ensures) in
     repeated (loop′ .inv) (loop-test′ .taken) told (code′ .ensures) (c .before .has .ensures) (c .if2 .taken)
@@ -68,12 +67,12 @@ loop-less c = omega arith
 loop-again : tie.Need-loop-again Inv-loop μ-loop
 unfolding nameOf
 loop-again c =
-    let loop′ = c .before .before .before .before .before .before .before .before .before .loop in
-    let loop-test′ = c .before .before .before .before .before .before .before .before .loop-test in
-    let plus′ = c .before .before .before .before .before .before .before .plus in
-    let param-at′ = c .before .before .before .before .before .before .param-at in
-    let is-good-param′ = c .before .before .before .before .before .is-good-param in
-    let if1′ = c .before .before .before .before .if1 in
+    let loop′ = c .before .before .before .before .before .before .before .before .before .before .loop in
+    let loop-test′ = c .before .before .before .before .before .before .before .before .before .loop-test in
+    let plus′ = c .before .before .before .before .before .before .before .before .plus in
+    let param-at′ = c .before .before .before .before .before .before .before .param-at in
+    let is-good-param′ = c .before .before .before .before .before .before .is-good-param in
+    let if1′ = c .before .before .before .before .before .if1 in
     let code′ = c .before .before .before .code in
     let has′ = c .before .before .has in
     let told = rw (plus′ .ensures) at (param-at′ .ensures) in

@@ -1,7 +1,7 @@
 -- Each test decides a clause, and the last is asked once the others hold.
 use mathlib.Core.Logic.{⊎-elim}
 use borrow.Author.Needs.{needs}
-use Rattle.table_check.proofs.Deciding.{also, not-so}
+use Rattle.part_check.proofs.Deciding.{also, not-so}
 use Rattle.table_check.proofs.params.is_good_param.Statement.{statement}
 use Rattle.table_check.proofs.params.is_good_param.Tie as tie
 

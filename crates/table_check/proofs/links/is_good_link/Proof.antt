@@ -1,15 +1,15 @@
 -- The target is asked first, and then the parameters.
 use mathlib.Core.Logic.{⊎-elim}
 use borrow.Author.Needs.{needs}
-use Rattle.table_check.proofs.Deciding.{also, not-so}
-use Rattle.table_check.proofs.is_good_link.Statement.{statement}
-use Rattle.table_check.proofs.is_good_link.Tie as tie
+use Rattle.part_check.proofs.Deciding.{also, not-so}
+use Rattle.table_check.proofs.links.is_good_link.Statement.{statement}
+use Rattle.table_check.proofs.links.is_good_link.Tie as tie
 
 is-span-requires : tie.Need-is-span-requires
 is-span-requires c κs = search needs
 
-is-target-part-requires : tie.Need-is-target-part-requires
-is-target-part-requires c κs = c .before .is-span .ensures .holds (c .if1 .taken)
+is-part-requires : tie.Need-is-part-requires
+is-part-requires c κs = c .before .is-span .ensures .holds (c .if1 .taken)
 
 are-good-params-requires : tie.Need-are-good-params-requires
 are-good-params-requires c κs = search needs
@@ -21,7 +21,7 @@ returns c =
     (λ g.
     record {
       target-span = b .before .before .is-span .ensures .holds (b .before .if1 .taken);
-      target = b .is-target-part .ensures .holds (c .before .if2 .taken);
+      target = b .is-part .ensures .holds (c .before .if2 .taken);
       params = g .each;
       once = g .once;
     })
@@ -35,4 +35,4 @@ returns-2 c =
 pub is-good-link-spec : {M : Type 1} → statement M
 is-good-link-spec =
     tie.close
-    (tie.spec is-span-requires is-target-part-requires are-good-params-requires returns returns-2)
+    (tie.spec is-span-requires is-part-requires are-good-params-requires returns returns-2)

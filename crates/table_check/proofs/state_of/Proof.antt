@@ -1,8 +1,8 @@
 -- The length is tested first, and then the table.
 use borrow.Author.Needs.{needs}
 use Rattle.outcomes.specs.Usable.{long-text, not-good}
-use Rattle.lookup.proofs.usable.state_of.Statement.{statement}
-use Rattle.lookup.proofs.usable.state_of.Tie as tie
+use Rattle.table_check.proofs.state_of.Statement.{statement}
+use Rattle.table_check.proofs.state_of.Tie as tie
 
 returns : tie.Need-returns
 returns c = long-text (c .if1 .taken)
