@@ -1,18 +1,18 @@
 -- What writing answers on a usable table.
-use Prim.Native.Nat.{ℕ, _+_, _≤_, _<_}
-use native.Mathlib.Nat.{zero-add}
+use Prim.Native.Nat.{ℕ, _≤_, _<_}
 use native.Mathlib.Omega.{arith}
 use mathlib.Core.Path.{_≡_, sym, _∙_}
 use mathlib.Core.List.{List, _++_}
 use lib.ListN.{length, drop}
+use Rattle.kinds.specs.Put.{Put}
+use Rattle.kinds.proofs.Stores.{sets-front}
 use Rattle.tables.specs.Table.{Table}
 use Rattle.outcomes.specs.Number.{limit, done, tooLong, noRelation, noOutputRoom}
 use Rattle.outcomes.specs.Usable.{Usable}
 use Rattle.outcomes.specs.Copy.{untouched}
 use Rattle.outcomes.specs.Write.{writtenForm, Related, Write, no-relation, long-form, no-room, wrote}
-use Rattle.writer.specs.Put.{Put}
-use Rattle.writer.specs.Measured.{Measured}
-use Rattle.writer.specs.Tells.{Unrelated}
+use Rattle.measuring.specs.Measured.{Measured}
+use Rattle.writer.specs.Related.{Unrelated}
 
 module _ {t : Table} (u : Usable t) (out : List ℕ) where
   pub unrelated-answer : Unrelated t → Write t out (untouched out noRelation)
@@ -32,5 +32,5 @@ module _ {t : Table} (u : Usable t) (out : List ℕ) where
       pub written-answer : {new : List ℕ} {to : ℕ} → n ≤ length out → Put out new 0 to (writtenForm t)
           → Write t out (record { number = done; count = n; buffer = new })
       written-answer {new} l p =
-          let b : new ≡ writtenForm t ++ drop (length (writtenForm t)) out = p .buffer ∙ rw zero-add in
+          let b : new ≡ writtenForm t ++ drop (length (writtenForm t)) out = p .buffer ∙ sets-front out (writtenForm t) (fits-buffer l) in
           rw (sym (m .exact h), b) (wrote u r (omega (arith, m .exact h)) (fits-buffer l))

@@ -11,6 +11,6 @@ abbrev pub Unrelated : Table → Type 0
 Unrelated t = (i : ℕ) × (i < t .linkCount) × (relationsAt t i ≡ [])
 
 -- b is true where every link has one, and false where some link has none
-pub record Tells (t : Table) (b : Bool) : Type 0 where
+pub record TellsRelated (t : Table) (b : Bool) : Type 0 where
   pub related : b ≡ true → Related t
   pub unrelated : b ≡ false → Unrelated t
