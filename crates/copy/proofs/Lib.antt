@@ -1,0 +1,2 @@
+-- Laws of value copy.
+pub mod Copying

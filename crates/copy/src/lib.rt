@@ -1,0 +1,65 @@
+// Value copy: what one parameter's value means, written into a buffer that is lent.
+ghost use Rattle.tables.specs.Table.{tableOf};
+ghost use Rattle.outcomes.specs.Usable.{Usable};
+ghost use Rattle.outcomes.specs.Copy.{Copy};
+ghost use Rattle.answers.specs.Length.{lengthNumbers, lengthOut};
+use answers::Refusal;
+use answers::length::LengthAnswer;
+use kinds::Counts;
+use kinds::LinkNumber;
+use kinds::OutPlace;
+use table_check::TableState;
+use table_check::state_of;
+use values::copy_meaning;
+use values::meaning_len;
+
+// Measures the meaning of the value, and writes it if there is room.
+fn copy_at(
+    text: &[u8],
+    links: &[usize],
+    params: &[usize],
+    counts: Counts,
+    link: LinkNumber,
+    index: usize,
+    out: &mut [u8],
+) -> LengthAnswer
+    requires { ⌜ Usable (tableOf (now text) (now links) (now params) (counts .links) (counts .params)) ⌝ }
+    ensures { λ r. ⌜ Copy (tableOf (now (text .entry)) (now (links .entry)) (now (params .entry)) (counts .links) (counts .params))
+        (link .0) index (now (out .entry)) (lengthOut (lengthNumbers r) (now (out .exit))) ⌝ }
+{
+    if link.0 >= counts.links {
+        return LengthAnswer::Refused(Refusal::NoSuchLink);
+    }
+    let l = records::link_at(links, link);
+    if index >= l.count {
+        return LengthAnswer::Refused(Refusal::NotFound);
+    }
+    let p = records::param_at(params, l.first.plus(index));
+    let part = p.value;
+    let n = meaning_len(text, part);
+    if n > out.len() {
+        return LengthAnswer::Refused(Refusal::NoOutputRoom);
+    }
+    copy_meaning(text, part, out, OutPlace::start());
+    LengthAnswer::Wrote(n)
+}
+
+// Writes what the value of the parameter means that stands at `index` within the link, and answers how many octets that is.
+pub fn value(
+    text: &[u8],
+    links: &[usize],
+    params: &[usize],
+    counts: Counts,
+    link: LinkNumber,
+    index: usize,
+    out: &mut [u8],
+) -> LengthAnswer
+    ensures { λ r. ⌜ Copy (tableOf (now (text .entry)) (now (links .entry)) (now (params .entry)) (counts .links) (counts .params))
+        (link .0) index (now (out .entry)) (lengthOut (lengthNumbers r) (now (out .exit))) ⌝ }
+{
+    let state = state_of(text, links, params, counts);
+    match state {
+        TableState::Refused(why) => LengthAnswer::Refused(why),
+        TableState::Usable => copy_at(text, links, params, counts, link, index, out),
+    }
+}
