@@ -1,0 +1,38 @@
+-- A refused table is refused, and on a usable one the value is copied.
+use borrow.Author.Needs.{needs}
+use Rattle.outcomes.specs.Copy.{refused}
+use Rattle.copy.proofs.value.Statement.{statement}
+use Rattle.copy.proofs.value.Tie as tie
+
+state-of-requires : tie.Need-state-of-requires
+state-of-requires c κs = search needs
+
+enum-known-state : tie.Need-enum-known-state
+enum-known-state c = search needs
+
+enum-told : tie.Need-enum-told
+enum-told c = search needs
+
+copy-at-requires : tie.Need-copy-at-requires
+copy-at-requires c κs = rw (c .before .enum-told .given .1) at (c .before .before .before .state-of .ensures)
+
+returns : tie.Need-returns
+returns c = refused (rw (c .before .state .given .1) at (c .before .before .before .state-of .ensures))
+
+same-length : tie.Need-same-length
+same-length c = search needs
+
+returns-2 : tie.Need-returns-2
+returns-2 c = search needs
+
+pub value-spec : {M : Type 1} → statement M
+value-spec =
+    tie.close
+    (tie.spec
+    state-of-requires
+    enum-known-state
+    enum-told
+    copy-at-requires
+    returns
+    same-length
+    returns-2)

@@ -1,0 +1,34 @@
+-- A refused table is refused, and on a usable one the relation is looked for.
+use borrow.Author.Needs.{needs}
+use Rattle.outcomes.specs.Search.{refused}
+use Rattle.search.proofs.search.Statement.{statement}
+use Rattle.search.proofs.search.Tie as tie
+
+state-of-requires : tie.Need-state-of-requires
+state-of-requires c κs = search needs
+
+enum-known-state : tie.Need-enum-known-state
+enum-known-state c = search needs
+
+enum-told : tie.Need-enum-told
+enum-told c = search needs
+
+first-with-requires : tie.Need-first-with-requires
+first-with-requires c κs = rw (c .enum-told .given .1) at (c .before .before .state-of .ensures)
+
+returns : tie.Need-returns
+returns c = refused (rw (c .before .state .given .1) at (c .before .before .before .state-of .ensures))
+
+returns-2 : tie.Need-returns-2
+returns-2 c = search needs
+
+pub search-spec : {M : Type 1} → statement M
+search-spec =
+    tie.close
+    (tie.spec
+    state-of-requires
+    enum-known-state
+    enum-told
+    first-with-requires
+    returns
+    returns-2)
