@@ -1,4 +1,4 @@
-// Links put one behind another.
+// Links put into a buffer in their written form, one behind another.
 ghost use Prim.Native.Nat.{_+_, _≤_};
 ghost use lib.ListN.{length};
 ghost use Rattle.kinds.specs.Put.{Put};
@@ -8,10 +8,10 @@ ghost use Rattle.records.specs.Slots.{toLink};
 ghost use Rattle.tables.specs.Table.{tableOf};
 ghost use Rattle.tables.specs.Good.{InText};
 ghost use Rattle.shape.specs.Forms.{linkForm, parting, GoodRun};
-use crate::params::put_params;
 use kinds::Counts;
 use kinds::LinkNumber;
 use kinds::OutPlace;
+use param_forms::put_params;
 use putting::part::put_part;
 use putting::put;
 use putting::put_two;

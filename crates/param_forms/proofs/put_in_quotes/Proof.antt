@@ -5,8 +5,8 @@ use Rattle.values.specs.Rest.{rest}
 use Rattle.shape.specs.Shape.{inQuotes}
 use Rattle.kinds.proofs.Putting.{begin, several, finish, room, octet-room}
 use borrow.Author.Needs.{needs}
-use Rattle.forms.proofs.params.put_in_quotes.Statement.{statement}
-use Rattle.forms.proofs.params.put_in_quotes.Tie as tie
+use Rattle.param_forms.proofs.put_in_quotes.Statement.{statement}
+use Rattle.param_forms.proofs.put_in_quotes.Tie as tie
 
 put-requires : tie.Need-put-requires
 put-requires c κs =

@@ -1,4 +1,4 @@
-// Parameters put one behind another.
+// Parameters put into a buffer in their written form, one behind another.
 ghost use Prim.Native.Nat.{_+_, _≤_};
 ghost use lib.ListN.{length};
 ghost use Rattle.kinds.specs.Put.{Put};

@@ -14,8 +14,8 @@ use Rattle.shape.proofs.GoodRecords.{target-span, good-run}
 use Rattle.kinds.proofs.Putting.{begin, several, room, onto}
 use Rattle.putting.proofs.PutUpTo.{PutUpTo, next, ended}
 use borrow.Author.Needs.{needs}
-use Rattle.forms.proofs.links.put_links.Statement.{statement}
-use Rattle.forms.proofs.links.put_links.Tie as tie
+use Rattle.link_forms.proofs.put_links.Statement.{statement}
+use Rattle.link_forms.proofs.put_links.Tie as tie
 
 abbrev Inv-loop : tie.InvT-loop
 Inv-loop text links params counts out₀ at₀ i₀ out at i =

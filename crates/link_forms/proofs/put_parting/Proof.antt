@@ -2,8 +2,8 @@
 use native.Mathlib.Omega.{arith}
 use Rattle.kinds.proofs.Putting.{none}
 use borrow.Author.Needs.{needs}
-use Rattle.forms.proofs.links.put_parting.Statement.{statement}
-use Rattle.forms.proofs.links.put_parting.Tie as tie
+use Rattle.link_forms.proofs.put_parting.Statement.{statement}
+use Rattle.link_forms.proofs.put_parting.Tie as tie
 
 returns : tie.Need-returns
 returns c =

@@ -1,9 +1,9 @@
 -- A token stands bare, and any other value in quotes.
 use mathlib.Core.Path.{sym, _∙_}
-use Rattle.forms.proofs.ValueForms.{bare-form, quoted-form}
+use Rattle.param_forms.proofs.ValueForms.{bare-form, quoted-form}
 use borrow.Author.Needs.{needs}
-use Rattle.forms.proofs.params.put_value.Statement.{statement}
-use Rattle.forms.proofs.params.put_value.Tie as tie
+use Rattle.param_forms.proofs.put_value.Statement.{statement}
+use Rattle.param_forms.proofs.put_value.Tie as tie
 
 is-bare-requires : tie.Need-is-bare-requires
 is-bare-requires c κs = c .before .before .pre .0

@@ -7,8 +7,8 @@ use Rattle.shape.specs.Forms.{paramsForm, linkForm}
 use Rattle.shape.proofs.LeftToWrite.{whole-run}
 use Rattle.kinds.proofs.Putting.{begin, several, last, room, last-room, octet-room, onto}
 use borrow.Author.Needs.{needs}
-use Rattle.forms.proofs.links.put_link.Statement.{statement}
-use Rattle.forms.proofs.links.put_link.Tie as tie
+use Rattle.link_forms.proofs.put_link.Statement.{statement}
+use Rattle.link_forms.proofs.put_link.Tie as tie
 
 put-requires : tie.Need-put-requires
 put-requires c κs = search needs

@@ -7,8 +7,8 @@ use Rattle.tables.specs.Written.{writtenValue}
 use Rattle.shape.specs.Forms.{paramForm}
 use Rattle.kinds.proofs.Putting.{begin, several, last, room, last-room, octet-room}
 use borrow.Author.Needs.{needs}
-use Rattle.forms.proofs.params.put_param.Statement.{statement}
-use Rattle.forms.proofs.params.put_param.Tie as tie
+use Rattle.param_forms.proofs.put_param.Statement.{statement}
+use Rattle.param_forms.proofs.put_param.Tie as tie
 
 put-two-requires : tie.Need-put-two-requires
 put-two-requires c κs =

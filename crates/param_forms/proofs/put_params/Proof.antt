@@ -6,8 +6,8 @@ use Rattle.shape.specs.Forms.{paramForm, paramsLeft}
 use Rattle.shape.proofs.LeftToWrite.{params-next, params-end}
 use Rattle.shape.proofs.GoodRecords.{in-room, good-next}
 use Rattle.putting.proofs.PutUpTo.{PutUpTo, start as begun, slots, steps, ended}
-use Rattle.forms.proofs.params.put_params.Statement.{statement}
-use Rattle.forms.proofs.params.put_params.Tie as tie
+use Rattle.param_forms.proofs.put_params.Statement.{statement}
+use Rattle.param_forms.proofs.put_params.Tie as tie
 
 abbrev Inv-loop : tie.InvT-loop
 Inv-loop text params end out₀ to₀ p₀ out to p =

@@ -1,0 +1,38 @@
+-- A refused table is refused, and a usable one is written.
+use Rattle.outcomes.specs.Write.{refused}
+use borrow.Author.Needs.{needs}
+use Rattle.writer.proofs.write.Statement.{statement}
+use Rattle.writer.proofs.write.Tie as tie
+
+state-of-requires : tie.Need-state-of-requires
+state-of-requires c κs = search needs
+
+enum-known-state : tie.Need-enum-known-state
+enum-known-state c = search needs
+
+enum-told : tie.Need-enum-told
+enum-told c = search needs
+
+write-table-requires : tie.Need-write-table-requires
+write-table-requires c κs = rw (c .before .enum-told .given .1) at (c .before .before .before .state-of .ensures)
+
+returns : tie.Need-returns
+returns c = refused (rw (c .before .state .given .1) at (c .before .before .before .state-of .ensures))
+
+same-length : tie.Need-same-length
+same-length c = search needs
+
+returns-2 : tie.Need-returns-2
+returns-2 c = search needs
+
+pub write-spec : {M : Type 1} → statement M
+write-spec =
+    tie.close
+    (tie.spec
+    state-of-requires
+    enum-known-state
+    enum-told
+    write-table-requires
+    returns
+    same-length
+    returns-2)
