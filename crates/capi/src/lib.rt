@@ -1,7 +1,119 @@
 // The entries for C. Each asks an entry of the library and hands on the numbers of its answer. A slice is passed as a pointer and
 // a count, and bare numbers become link numbers and counts here.
-pub mod context;
-pub mod read;
-pub mod search;
-pub mod value;
-pub mod write;
+ghost use mathlib.Core.Path.{_≡_};
+ghost use Rattle.answers.specs.Length.{lengthOut};
+ghost use Rattle.answers.specs.Read.{readOut};
+ghost use Rattle.answers.specs.Search.{searchOut};
+ghost use Rattle.capi.specs.Part.{IsContext};
+ghost use Rattle.outcomes.specs.Copy.{Copy};
+ghost use Rattle.outcomes.specs.Read.{Read};
+ghost use Rattle.outcomes.specs.Search.{Search};
+ghost use Rattle.outcomes.specs.Write.{Write};
+ghost use Rattle.tables.specs.Table.{tableOf};
+use answers::context::ContextNumbers;
+use answers::length::LengthNumbers;
+use answers::read::ReadNumbers;
+use answers::search::SearchNumbers;
+use kinds::Counts;
+use kinds::LinkNumber;
+
+// Both counts of a table.
+fn counts_of(links: usize, params: usize) -> Counts
+    ensures { λ r. ⌜ r ≡ record { links = links; params = params } ⌝ }
+{
+    Counts { links, params }
+}
+
+// Reads a header.
+#[no_mangle]
+pub extern "C" fn capstan_read(
+    header: &[u8],
+    links: &mut [usize],
+    params: &mut [usize],
+) -> ReadNumbers
+    ensures { λ r. ⌜
+        Read (now (header .entry)) (now (links .entry)) (now (params .entry))
+        (readOut r (now (links .exit)) (now (params .exit))) ⌝ }
+{
+    reader::read(header, links, params).numbers()
+}
+
+// Searches a table for a link by relation.
+#[no_mangle]
+pub extern "C" fn capstan_search(
+    text: &[u8],
+    links: &[usize],
+    params: &[usize],
+    link_count: usize,
+    param_count: usize,
+    relation: &[u8],
+) -> SearchNumbers
+    ensures { λ r. ⌜
+        Search
+        (tableOf (now (text .entry)) (now (links .entry)) (now (params .entry)) «link_count» «param_count»)
+        (now (relation .entry)) (searchOut r) ⌝ }
+{
+    let counts = counts_of(link_count, param_count);
+    search::search(text, links, params, counts, relation).numbers()
+}
+
+// Tells where a link's context lies, in the text or in the base.
+#[no_mangle]
+pub extern "C" fn capstan_context<'a>(
+    text: &'a [u8],
+    base: &'a [u8],
+    links: &[usize],
+    params: &[usize],
+    link_count: usize,
+    param_count: usize,
+    link: usize,
+) -> ContextNumbers
+    ensures { λ r. ⌜
+        IsContext
+        (tableOf (now (text .entry)) (now (links .entry)) (now (params .entry)) «link_count» «param_count»)
+        (now (base .entry)) link r ⌝ }
+{
+    let counts = counts_of(link_count, param_count);
+    let answer = context::context_number(text, base, links, params, counts, LinkNumber(link));
+    answer.numbers(base.len())
+}
+
+// Copies the meaning of the value of the parameter at `place` within the link, counted from 0.
+#[no_mangle]
+pub extern "C" fn capstan_value(
+    text: &[u8],
+    links: &[usize],
+    params: &[usize],
+    link_count: usize,
+    param_count: usize,
+    link: usize,
+    place: usize,
+    out: &mut [u8],
+) -> LengthNumbers
+    ensures { λ r. ⌜
+        Copy
+        (tableOf (now (text .entry)) (now (links .entry)) (now (params .entry)) «link_count» «param_count»)
+        link place (now (out .entry)) (lengthOut r (now (out .exit))) ⌝ }
+{
+    let counts = counts_of(link_count, param_count);
+    copy::value(text, links, params, counts, LinkNumber(link), place, out).numbers()
+}
+
+// Writes a table.
+#[no_mangle]
+pub extern "C" fn capstan_write(
+    text: &[u8],
+    links: &[usize],
+    params: &[usize],
+    link_count: usize,
+    param_count: usize,
+    out: &mut [u8],
+) -> LengthNumbers
+    ensures { λ r. ⌜
+        Write
+        (tableOf (now (text .entry)) (now (links .entry)) (now (params .entry)) «link_count» «param_count»)
+        (now (out .entry)) (lengthOut r (now (out .exit))) ⌝ }
+{
+    let counts = counts_of(link_count, param_count);
+    writer::write(text, links, params, counts, out).numbers()
+}
