@@ -19,26 +19,26 @@ pub fn read_param(s: &[u8], from: Cursor) -> ParamRead
     let e = from.past_token(s);
     let name = from.span_to(e);
     let k = e.past_blanks(s);
-    if !k.sees(s, b'=') {
-        let value = e.span_to(e);
+    if k.sees(s, b'=') {
+        let v = read_value(s, k.past_octet(s).past_blanks(s));
+        let value = v.span;
+        let next = v.next;
         return ParamRead {
             record: ParamRecord {
                 name,
                 value,
-                form: 0,
+                form: v.form,
             },
-            next: k,
+            next,
         };
     }
-    let v = read_value(s, k.past_octet(s).past_blanks(s));
-    let value = v.span;
-    let next = v.next;
+    let value = e.span_to(e);
     ParamRead {
         record: ParamRecord {
             name,
             value,
-            form: v.form,
+            form: 0,
         },
-        next,
+        next: k,
     }
 }

@@ -2,22 +2,25 @@
 use Prim.Native.Nat.{ℕ, suc, _+_, _≤_, _<_}
 use native.Mathlib.Omega.{arith}
 use native.Mathlib.Numerals.{add-one}
-use mathlib.Core.Path.{_≡_, refl, sym, subst, _∙_}
+use mathlib.Core.Path.{_≡_, refl, sym, ap, subst, _∙_}
 use mathlib.Core.Bool.{Bool, true, false, not}
 use mathlib.Core.List.{List}
 use lib.ListN.{length, getD}
-use borrow.Author.Tests.{not-true, not-false, ne-eqb}
+use borrow.Author.Tests.{not-true}
 use Rattle.octets.specs.Sets.{isPlain, isEscapable}
-use Rattle.grammar.specs.Grammar.{rfc8288, In, Run, run-end, run-more, Inside, inside-end, plain, pair}
+use Rattle.grammar.specs.Grammar.{rfc8288, At, In, Run, run-end, run-more, Inside, inside-end, plain, pair}
 use Rattle.grammar.proofs.Classes.{plain-not-quote, plain-not-backslash}
 use Rattle.grammar.specs.Machine.{quote, escape, Open}
-use Rattle.cursor.specs.Passed.{Passed}
+use Rattle.cursor.specs.Passed.{Passed, Looked}
 use Rattle.cursor.specs.declared.Cursor.{Cursor}
-use Rattle.scan_parts.specs.declared.Scan.the-variants.{Past}
+use Rattle.scan_parts.specs.declared.Scan.{Scan}
+use Rattle.scan_parts.specs.declared.Scan.the-variants.{Stuck, Past}
+use Rattle.kinds.specs.declared.Place.{Place}
 use Rattle.grammar.specs.Place.{MalformedAt}
 use Rattle.scan_parts.specs.Stands.{Stands}
-use Rattle.scan_parts.specs.Scanned.{InsideScanned, unquoted}
-use Rattle.scan_parts.proofs.Standing.{stands-on, halts-at, halts-end}
+use Rattle.scan_parts.specs.Scanned.{OneScanned, none-there, InsideScanned, no-quote}
+use Rattle.scan_parts.proofs.Standing.{stands-on, halts}
+use Rattle.scan_parts.proofs.OneOctet.{passed-one}
 
 -- how far the inside has been passed, from place a: to i, where no plain octet stands
 pub record InsideSoFar (s : List ℕ) (a i : ℕ) : Type 0 where
@@ -58,48 +61,38 @@ module _ {s : List ℕ} where
         stops = g .stops;
       }
 
-  pub escapable-at : {a : ℕ} {b : Bool} → a < length s → b ≡ isEscapable (getD s a 0) → not b ≡ false → In s isEscapable a
-  escapable-at {b = b} h e f = record { inside = h; is = sym e ∙ not-false b f }
-
   -- a pair, and a run behind it
-  pub more : {a i j k e : ℕ} → InsideSoFar s a i → i < length s → getD s i 0 ≡ 92 → j ≡ i + 1 → In s isEscapable j → k ≡ j + 1
-      → Passed isPlain s k e → InsideSoFar s a e
-  more {a} {i} {j} {k} {e} g h c q x r p =
-      let n : j ≡ suc i = q ∙ add-one i in
-      let m : k ≡ suc (suc i) = omega arith in
-      record {
-        derived =
-            inside-append (g .derived)
-            (pair (record { inside = h; is = c }) (subst (In s isEscapable) n x)
-            (subst (λ (y : ℕ). Inside s y e) m (run-inside (p .run))));
-        forward = omega (arith, g .forward, p .forward);
-        inside = p .inside;
-        stops = p .stops;
-      }
+  module _ {a i j : ℕ} {r : Scan} (g : InsideSoFar s a i) (q : At s i 92) (k : j ≡ i + 1) (u : OneScanned isEscapable s j r) where
+    pub more : {e : ℕ} {d : Cursor} → r ≡ Past d → Passed isPlain s (d .at .0) e → InsideSoFar s a e
+    more {e} w p =
+        let n : j ≡ suc i = k ∙ add-one i in
+        let t = passed-one u w in
+        record {
+          derived =
+              inside-append (g .derived)
+              (pair q (subst (In s isEscapable) n (t .1))
+              (subst (λ (x : ℕ). Inside s x e) (t .0 ∙ ap suc n) (run-inside (p .run))));
+          forward = omega (arith, g .forward, p .forward, t .0);
+          inside = p .inside;
+          stops = p .stops;
+        }
 
-  pub cut-short : {a i : ℕ} → InsideSoFar s a i → length s ≤ i → (o : Open) (n e v : ℕ) → Stands s (quote o n e v) a → MalformedAt rfc8288 s i
-  cut-short g h o n e v p = halts-end (inside-stands o n e v (g .derived) p) refl h refl
+    pub no-pair : {p : Place} → r ≡ Stuck p → InsideScanned s a (Stuck p)
+    no-pair e = go (subst (OneScanned isEscapable s j) e u)
+      where
+        go : {p : Place} → OneScanned isEscapable s j (Stuck p) → InsideScanned s a (Stuck p)
+        go (none-there z w) =
+            no-quote
+            (λ o n e v p.
+            subst (MalformedAt rfc8288 s) (sym z)
+            (halts
+            (subst (Stands s (escape o n e v)) (sym (k ∙ add-one i))
+            (stands-on (escape o n e v) (inside-stands o n e v (g .derived) p) (q .inside) (rw (q .is)))) refl refl
+            (λ h. rw (w h))))
 
-  pub is-closed : {a : ℕ} {c : Cursor} → InsideSoFar s a (c .at .0) → c .at .0 < length s → getD s (c .at .0) 0 ≡ 34
-      → InsideScanned s a (Past c)
-  is-closed g h e = unquoted (g .derived) (record { inside = h; is = e })
-
-  pub no-octet : {a i : ℕ} → InsideSoFar s a i → i < length s → (getD s i 0 ≡ 34 → ⊥) → (getD s i 0 ≡ 92 → ⊥)
-      → (o : Open) (n e v : ℕ) → Stands s (quote o n e v) a → MalformedAt rfc8288 s i
-  no-octet g h x y o n e v p =
-      halts-at (inside-stands o n e v (g .derived) p) refl h (rw (ne-eqb _ 34 x, ne-eqb _ 92 y, g .stops h))
-
-  escaping : {a i j : ℕ} → InsideSoFar s a i → i < length s → getD s i 0 ≡ 92 → j ≡ i + 1 → (o : Open) (n e v : ℕ)
-      → Stands s (quote o n e v) a → Stands s (escape o n e v) j
-  escaping {i = i} g h c q o n e v p =
-      subst (Stands s (escape o n e v)) (sym (q ∙ add-one i))
-      (stands-on (escape o n e v) (inside-stands o n e v (g .derived) p) h (rw c))
-
-  pub pair-short : {a i j : ℕ} → InsideSoFar s a i → i < length s → getD s i 0 ≡ 92 → j ≡ i + 1 → length s ≤ j
-      → (o : Open) (n e v : ℕ) → Stands s (quote o n e v) a → MalformedAt rfc8288 s j
-  pair-short g h c q l o n e v p = halts-end (escaping g h c q o n e v p) refl l refl
-
-  pub pair-wrong : {a i j : ℕ} {b : Bool} → InsideSoFar s a i → i < length s → getD s i 0 ≡ 92 → j ≡ i + 1 → j < length s
-      → b ≡ isEscapable (getD s j 0) → not b ≡ true → (o : Open) (n e v : ℕ) → Stands s (quote o n e v) a → MalformedAt rfc8288 s j
-  pair-wrong {b = b} g h c q l x y o n e v p =
-      halts-at (escaping g h c q o n e v p) refl l (rw (sym x ∙ not-true b y))
+  pub no-octet : {a i : ℕ} {x y : Bool} → InsideSoFar s a i → Looked s i 34 x → x ≡ false → Looked s i 92 y → not y ≡ true
+      → InsideScanned s a (Stuck (record { 0 = i }))
+  no-octet {y = y} g l x k f =
+      no-quote
+      (λ o n e v p.
+      halts (inside-stands o n e v (g .derived) p) refl refl (λ h. rw (l .not x h, k .not (not-true y f) h, g .stops h)))

@@ -1,6 +1,6 @@
 -- Laws of where the machine stands within a link, and of what its parts are parsed as.
 pub mod Standing
-pub mod HexDigits
+pub mod OneOctet
 pub mod TargetSoFar
 pub mod InsideSoFar
 pub mod ReadyBehindValue

@@ -1,10 +1,11 @@
 -- What a scan has passed piece by piece is parsed: a value, a parameter.
-use Prim.Native.Nat.{ℕ, suc, _+_}
+use Prim.Native.Nat.{ℕ, suc, _+_, _<_}
 use native.Mathlib.Numerals.{add-one}
 use mathlib.Core.Path.{_≡_, sym, subst, subst₂, subst₃, _∙_}
-use mathlib.Core.Bool.{Bool, true, not}
+use mathlib.Core.Bool.{false}
 use mathlib.Core.List.{List}
-use borrow.Author.Tests.{not-true}
+use lib.Dec.{eqb}
+use lib.ListN.{length, getD}
 use Rattle.octets.specs.Sets.{isBlank, isToken}
 use Rattle.grammar.specs.Link.{Param}
 use Rattle.grammar.specs.Grammar.{At, Inside}
@@ -12,7 +13,7 @@ use Rattle.grammar.specs.Machine.{param}
 use Rattle.kinds.specs.declared.Span.{Span}
 use Rattle.records.specs.declared.ParamRecord.{ParamRecord}
 use Rattle.records.specs.Slots.{toParam}
-use Rattle.cursor.specs.Passed.{Passed, Looked}
+use Rattle.cursor.specs.Passed.{Passed}
 use Rattle.scan_parts.specs.Parsed.{ParsedValue, a-token, a-quoted, Parsed, without, with}
 use Rattle.scan_parts.proofs.ReadyBehindValue.{first-of}
 
@@ -40,9 +41,8 @@ module _ {s : List ℕ} where
 
   module _ {a e k : ℕ} {r : ParamRecord} (t : Passed isToken s a e) (n : e ≡ a → ⊥) (b : Passed isBlank s e k)
       (x : Spans (r .name) a e) where
-    pub flag-parsed : {q : Bool} → Looked s k 61 q → not q ≡ true → Spans (r .value) e e → r .form ≡ 0 → Parsed s a (toParam r) k
-    flag-parsed {q} l f y z =
-        subst (λ (p : Param). Parsed s a p k) (same-param r x y z) (without (first-of t n) t b (l .not (not-true q f)))
+    pub flag-parsed : (k < length s → eqb (getD s k 0) 61 ≡ false) → Spans (r .value) e e → r .form ≡ 0 → Parsed s a (toParam r) k
+    flag-parsed q y z = subst (λ (p : Param). Parsed s a p k) (same-param r x y z) (without (first-of t n) t b q)
 
     pub valued-parsed : {j v f d : ℕ} {u : Span} → At s k 61 → j ≡ k + 1 → Passed isBlank s j v
         → ParsedValue s v (u .from .0) (u .to .0) f d → Spans (r .value) (u .from .0) (u .to .0) → r .form ≡ f

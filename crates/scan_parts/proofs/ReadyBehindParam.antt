@@ -19,14 +19,14 @@ use Rattle.tables.specs.Good.{InText}
 use Rattle.cursor.specs.Passed.{Passed}
 use Rattle.scan_parts.specs.Stands.{Stands, Ready, Clear}
 use Rattle.scan_parts.specs.Parsed.{Parsed, without, with}
-use Rattle.scan_parts.proofs.Standing.{stands-on, stands-run, halts-at, halts-end}
-use Rattle.scan_parts.proofs.ReadyBehindValue.{not-there, uncons, end-or-not, value-ready, value-forward}
+use Rattle.scan_parts.proofs.Standing.{stands-on, stands-run, halts}
+use Rattle.scan_parts.proofs.ReadyBehindValue.{not-there, uncons, value-ready, value-forward}
 
 module _ {s : List ℕ} where
   pub no-param-here : {a e : ℕ} → Clear s a → Passed isToken s a e → e ≡ a → (o : Open) → Stands s (semi o) a
       → MalformedAt rfc8288 s a
   no-param-here c t e o p =
-      end-or-not (λ h. halts-end p refl h refl) (λ h. halts-at p refl h (rw (c .clear h, not-there t e h)))
+      halts p refl refl (λ h. rw (c .clear h, not-there t e h))
 
   name-passed : {a e : ℕ} (o : Open) → a < e → Run s isToken a e → Stands s (semi o) a → Stands s (name o a) e
   name-passed {a} o h t p =

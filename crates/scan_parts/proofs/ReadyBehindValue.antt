@@ -3,7 +3,6 @@
 use Prim.Native.Nat.{ℕ, suc, _+_, _≤_, _<_}
 use native.Mathlib.Omega.{arith}
 use native.Mathlib.Numerals.{add-one}
-use native.Mathlib.Decide.{decLe}
 use mathlib.Core.Path.{_≡_, refl, sym, subst, _∙_}
 use mathlib.Core.Bool.{Bool, false}
 use mathlib.Core.List.{List}
@@ -18,7 +17,7 @@ use Rattle.tables.proofs.Texts.{inside-le}
 use Rattle.cursor.specs.Passed.{Passed}
 use Rattle.scan_parts.specs.Stands.{Stands, Ready, Clear}
 use Rattle.scan_parts.specs.Parsed.{ParsedValue, a-token, a-quoted}
-use Rattle.scan_parts.proofs.Standing.{stands-on, stands-run, halts-at, halts-end}
+use Rattle.scan_parts.proofs.Standing.{stands-on, stands-run, halts}
 use Rattle.scan_parts.proofs.InsideSoFar.{inside-stands}
 
 module _ {s : List ℕ} where
@@ -33,21 +32,13 @@ module _ {s : List ℕ} where
   uncons h run-end = absurd (omega arith)
   uncons h (run-more c r) = (c, r)
 
-  pub end-or-not : {i : ℕ} → (length s ≤ i → MalformedAt rfc8288 s i) → (i < length s → MalformedAt rfc8288 s i)
-      → MalformedAt rfc8288 s i
-  end-or-not {i} x y = go (decLe (length s) i)
-    where
-      go : Dec (length s ≤ i) → MalformedAt rfc8288 s i
-      go (yes h) = x h
-      go (no h) = y (omega arith)
-
   pub ready-after : {o : Open} {i : ℕ} → Stands s (after o) i → Ready s o i
   ready-after {o} p = record { state = after o; stands = p; settles = refl; steps = λ h. refl }
 
   pub no-value-here : {v e : ℕ} → Clear s v → (v < length s → eqb (getD s v 0) 34 ≡ false) → Passed isToken s v e → e ≡ v
       → (o : Open) (n k : ℕ) → Stands s (equals o n k) v → MalformedAt rfc8288 s v
   no-value-here {v} c q t e o n k p =
-      end-or-not (λ h. halts-end p refl h refl) (λ h. halts-at p refl h (rw (c .clear h, q h, not-there t e h)))
+      halts p refl refl (λ h. rw (c .clear h, q h, not-there t e h))
 
   pub quote-starts : {v j : ℕ} → At s v 34 → j ≡ v + 1 → (o : Open) (n e : ℕ) → Stands s (equals o n e) v
       → Stands s (quote o n e (suc v)) j

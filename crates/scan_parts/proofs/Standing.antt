@@ -1,6 +1,7 @@
 -- Where the machine stands after one octet more, after a run that leaves its state, and where it can go no further.
 use Prim.Native.Nat.{ℕ, suc, _+_, _≤_, _<_}
 use native.Mathlib.Omega.{arith}
+use native.Mathlib.Decide.{decLe}
 use mathlib.Core.Path.{_≡_, refl, sym, ap, subst, _∙_}
 use mathlib.Core.Logic.{inl, inr}
 use mathlib.Core.Bool.{Bool, true, false, true≢false}
@@ -80,6 +81,15 @@ module _ {s : List ℕ} where
             ∙ ap (λ (x : State). settle x (length s)) (p .is) ∙ ap (settle st) (sym w) ∙ e));
         place = place-at rfc8288 admissible8288 s i (p .inside) (ap isDead (p .is) ∙ alive) (inl w);
       }
+
+  -- no octet that may stand here does
+  pub halts : {st : State} {i : ℕ} → Stands s st i → isDead st ≡ false → settle st i ≡ none
+      → (i < length s → step rfc8288 st i (getD s i 0) ≡ dead) → MalformedAt rfc8288 s i
+  halts {i = i} p alive ends e = go (decLe (length s) i)
+    where
+      go : Dec (length s ≤ i) → MalformedAt rfc8288 s i
+      go (yes h) = halts-end p alive h ends
+      go (no h) = let l : i < length s = omega arith in halts-at p alive l (e l)
 
   -- the header ends where it may
   pub finishes : {st : State} {i : ℕ} {ls : List Link} → Stands s st i → length s ≤ i → settle st i ≡ some ls

@@ -3,23 +3,22 @@ use Prim.Native.Nat.{ℕ, suc, _+_, _≤_, _<_}
 use native.Mathlib.Omega.{arith}
 use native.Mathlib.Numerals.{add-one}
 use mathlib.Core.Path.{_≡_, refl, sym, ap, subst, _∙_}
-use mathlib.Core.Bool.{false}
+use mathlib.Core.Bool.{Bool, true, false, not}
 use mathlib.Core.List.{List}
 use lib.ListN.{length, getD}
-use borrow.Author.Tests.{ne-eqb}
+use borrow.Author.Tests.{not-true}
 use Rattle.octets.specs.Sets.{isTarget, isHex}
 use Rattle.grammar.specs.Link.{Link}
-use Rattle.grammar.specs.Grammar.{rfc8288, At, In, Run, run-end, run-more, Target, target-end, octet, triple}
+use Rattle.grammar.specs.Grammar.{At, In, Run, run-end, run-more, Target, target-end, octet, triple}
 use Rattle.grammar.specs.Machine.{target, percent, hex}
-use Rattle.cursor.specs.Passed.{Passed}
+use Rattle.cursor.specs.Passed.{Passed, Looked}
 use Rattle.kinds.specs.declared.Place.{Place}
 use Rattle.cursor.specs.declared.Cursor.{Cursor}
 use Rattle.scan_parts.specs.declared.Scan.{Scan}
 use Rattle.scan_parts.specs.declared.Scan.the-variants.{Stuck, Past}
-use Rattle.grammar.specs.Place.{MalformedAt}
 use Rattle.scan_parts.specs.Stands.{Stands}
-use Rattle.scan_parts.specs.Scanned.{TripleScanned, no-digit, digits, TargetScanned, closed}
-use Rattle.scan_parts.proofs.Standing.{stands-on, halts-at, halts-end}
+use Rattle.scan_parts.specs.Scanned.{TripleScanned, no-digit, digits, TargetScanned, no-target}
+use Rattle.scan_parts.proofs.Standing.{stands-on, halts}
 
 -- how far a target has been passed, from place a: to i, where no target octet stands
 pub record TargetSoFar (s : List ℕ) (a i : ℕ) : Type 0 where
@@ -69,45 +68,40 @@ module _ {s : List ℕ} where
       go (digits e x y) = (e, x, y)
 
   -- a triple, and a run behind it
-  pub more : {a i j e : ℕ} {d : Cursor} {r : Scan} → TargetSoFar s a i → i < length s → getD s i 0 ≡ 37 → j ≡ i + 1
-      → TripleScanned s j r → r ≡ Past d → Passed isTarget s (d .at .0) e → TargetSoFar s a e
-  more {a} {i} {j} {e} {d} g h c k u w p =
-      let n : j ≡ suc i = k ∙ add-one i in
-      let t = past-digits u w in
-      let q : At s i 37 = record { inside = h; is = c } in
-      record {
-        derived =
-            target-append (g .derived)
-            (triple q (subst (In s isHex) n (t .1)) (subst (λ (x : ℕ). In s isHex (suc x)) n (t .2))
-            (subst (λ (x : ℕ). Target s x e) (t .0 ∙ ap (λ (x : ℕ). suc (suc x)) n) (run-target (p .run))));
-        forward = omega (arith, g .forward, p .forward);
-        inside = p .inside;
-        stops = p .stops;
-      }
+  module _ {a i j : ℕ} {r : Scan} (g : TargetSoFar s a i) (q : At s i 37) (k : j ≡ i + 1) (u : TripleScanned s j r) where
+    pub more : {e : ℕ} {d : Cursor} → r ≡ Past d → Passed isTarget s (d .at .0) e → TargetSoFar s a e
+    more {e} w p =
+        let n : j ≡ suc i = k ∙ add-one i in
+        let t = past-digits u w in
+        record {
+          derived =
+              target-append (g .derived)
+              (triple q (subst (In s isHex) n (t .1)) (subst (λ (x : ℕ). In s isHex (suc x)) n (t .2))
+              (subst (λ (x : ℕ). Target s x e) (t .0 ∙ ap (λ (x : ℕ). suc (suc x)) n) (run-target (p .run))));
+          forward = omega (arith, g .forward, p .forward, t .0);
+          inside = p .inside;
+          stops = p .stops;
+        }
+
+    pub no-triple : {p : Place} → r ≡ Stuck p → TargetScanned s a (Stuck p)
+    unfolding isTarget
+    no-triple e = go (subst (TripleScanned s j) e u)
+      where
+        go : {p : Place} → TripleScanned s j (Stuck p) → TargetScanned s a (Stuck p)
+        go (no-digit f) =
+            no-target
+            (λ ls b p.
+            f ls b
+            (subst (Stands s (percent ls b)) (sym (k ∙ add-one i))
+            (stands-on (percent ls b) (target-stands ls b (g .derived) p) (q .inside) (rw (q .is)))))
 
   -- the cursor behind a triple is in the text
   pub past-inside : {j : ℕ} {d : Cursor} {r : Scan} → TripleScanned s j r → r ≡ Past d → (suc j ≤ d .at .0) × (d .at .0 ≤ length s)
   past-inside u w = let t = past-digits u w in (omega (arith, t .0), omega (arith, t .0, t .2 .inside))
 
-  pub cut-short : {a i : ℕ} → TargetSoFar s a i → length s ≤ i → (ls : List Link) (b : ℕ) → Stands s (target ls b) a → MalformedAt rfc8288 s i
-  cut-short g h ls b p = halts-end (target-stands ls b (g .derived) p) refl h refl
-
-  pub is-closed : {a : ℕ} {c : Cursor} → TargetSoFar s a (c .at .0) → c .at .0 < length s → getD s (c .at .0) 0 ≡ 62
-      → TargetScanned s a (Past c)
-  is-closed g h e = closed (g .derived) (record { inside = h; is = e })
-
-  pub no-octet : {a i : ℕ} → TargetSoFar s a i → i < length s → (getD s i 0 ≡ 62 → ⊥) → (getD s i 0 ≡ 37 → ⊥)
-      → (ls : List Link) (b : ℕ) → Stands s (target ls b) a → MalformedAt rfc8288 s i
-  no-octet g h e f ls b p = halts-at (target-stands ls b (g .derived) p) refl h (rw (g .stops h, ne-eqb _ 37 f, ne-eqb _ 62 e))
-
-  pub no-triple : {a i j : ℕ} {q : Place} {r : Scan} → TargetSoFar s a i → i < length s → getD s i 0 ≡ 37 → j ≡ i + 1
-      → TripleScanned s j r → r ≡ Stuck q → (ls : List Link) (b : ℕ)
-      → Stands s (target ls b) a → MalformedAt rfc8288 s (q .0)
-  unfolding isTarget
-  no-triple {i = i} {j = j} g h c k t e ls b p =
-      go (subst (TripleScanned s j) e t)
-      (subst (Stands s (percent ls b)) (sym (k ∙ add-one i))
-      (stands-on (percent ls b) (target-stands ls b (g .derived) p) h (rw c)))
-    where
-      go : {q : Place} → TripleScanned s j (Stuck q) → Stands s (percent ls b) j → MalformedAt rfc8288 s (q .0)
-      go (no-digit f) p = f ls b p
+  pub no-octet : {a i : ℕ} {x y : Bool} → TargetSoFar s a i → Looked s i 62 x → x ≡ false → Looked s i 37 y → not y ≡ true
+      → TargetScanned s a (Stuck (record { 0 = i }))
+  no-octet {y = y} g l e k f =
+      no-target
+      (λ ls b p.
+      halts (target-stands ls b (g .derived) p) refl refl (λ h. rw (g .stops h, k .not (not-true y f) h, l .not e h)))

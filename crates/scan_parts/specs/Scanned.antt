@@ -1,25 +1,30 @@
 -- What each scan promises of its answer: what it passed, or that the header is malformed there, if the machine stood before it.
-use Prim.Native.Nat.{ℕ, suc}
+use Prim.Native.Nat.{ℕ, suc, _<_}
 use mathlib.Core.Path.{_≡_}
+use mathlib.Core.Bool.{Bool, false}
 use mathlib.Core.List.{List}
+use lib.ListN.{length, getD}
+use Rattle.octets.specs.Sets.{isHex}
 use Rattle.grammar.specs.Link.{Link}
 use Rattle.grammar.specs.Grammar.{rfc8288, At, In, Inside, Target}
 use Rattle.grammar.specs.Place.{MalformedAt}
 use Rattle.grammar.specs.Machine.{target, percent, semi, equals, quote, Open}
-use Rattle.octets.specs.Sets.{isHex}
-use Rattle.records.specs.Slots.{toParam}
 use Rattle.kinds.specs.declared.Place.{Place}
 use Rattle.kinds.specs.declared.Span.{Span}
 use Rattle.records.specs.declared.ParamRecord.{ParamRecord}
+use Rattle.records.specs.Slots.{toParam}
 use Rattle.cursor.specs.declared.Cursor.{Cursor}
 use Rattle.scan_parts.specs.declared.Scan.{Scan}
 use Rattle.scan_parts.specs.declared.Scan.the-variants.{Stuck, Past}
-use Rattle.scan_parts.specs.declared.value.ValueScan.{ValueScan}
-use Rattle.scan_parts.specs.declared.value.ValueScan.the-variants.{NoValue, Value}
 use Rattle.scan_parts.specs.declared.ParamScan.{ParamScan}
 use Rattle.scan_parts.specs.declared.ParamScan.the-variants.{NoParam, Param}
 use Rattle.scan_parts.specs.Stands.{Stands}
 use Rattle.scan_parts.specs.Parsed.{ParsedValue, Parsed}
+
+-- one octet of the set f at place a
+pub data OneScanned (f : ℕ → Bool) (s : List ℕ) (a : ℕ) : Scan → Type 0 where
+  none-there : {p : Place} → p .0 ≡ a → (a < length s → f (getD s a 0) ≡ false) → OneScanned f s a (Stuck p)
+  one-there : {c : Cursor} → c .at .0 ≡ suc a → In s f a → OneScanned f s a (Past c)
 
 -- two hex digits at place a, behind `%`
 pub data TripleScanned (s : List ℕ) (a : ℕ) : Scan → Type 0 where
@@ -39,15 +44,14 @@ pub data InsideScanned (s : List ℕ) (a : ℕ) : Scan → Type 0 where
       → InsideScanned s a (Stuck p)
   unquoted : {c : Cursor} → Inside s a (c .at .0) → At s (c .at .0) 34 → InsideScanned s a (Past c)
 
--- a value from place v on
-pub data ValueScanned (s : List ℕ) (v : ℕ) : ValueScan → Type 0 where
+-- the value, from place v on, of a parameter of this name
+pub data ValueScanned (s : List ℕ) (name : Span) (v : ℕ) : ParamScan → Type 0 where
   no-value : {p : Place} → ((o : Open) (n e : ℕ) → Stands s (equals o n e) v → MalformedAt rfc8288 s (p .0))
-      → ValueScanned s v (NoValue p)
-  a-value : {a : Span} {f : ℕ} {c : Cursor} → ParsedValue s v (a .from .0) (a .to .0) f (c .at .0)
-      → ValueScanned s v (Value a f c)
+      → ValueScanned s name v (NoParam p)
+  a-value : {r : ParamRecord} {c : Cursor} → r .name ≡ name
+      → ParsedValue s v (r .value .from .0) (r .value .to .0) (r .form) (c .at .0) → ValueScanned s name v (Param r c)
 
 -- a parameter from place a on
 pub data ParamScanned (s : List ℕ) (a : ℕ) : ParamScan → Type 0 where
-  no-param : {p : Place} → ((o : Open) → Stands s (semi o) a → MalformedAt rfc8288 s (p .0))
-      → ParamScanned s a (NoParam p)
+  no-param : {p : Place} → ((o : Open) → Stands s (semi o) a → MalformedAt rfc8288 s (p .0)) → ParamScanned s a (NoParam p)
   a-param : {r : ParamRecord} {c : Cursor} → Parsed s a (toParam r) (c .at .0) → ParamScanned s a (Param r c)

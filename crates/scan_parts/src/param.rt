@@ -2,7 +2,6 @@
 ghost use Rattle.scan_parts.specs.Stands.{Clear};
 ghost use Rattle.scan_parts.specs.Scanned.{ParamScanned};
 use crate::ParamScan;
-use crate::value::ValueScan;
 use crate::value::past_value;
 use cursor::Cursor;
 use records::ParamRecord;
@@ -18,19 +17,16 @@ pub fn past_param(s: &[u8], from: Cursor) -> ParamScan
     }
     let name = from.span_to(e);
     let k = e.past_blanks(s);
-    if !k.sees(s, b'=') {
-        let value = e.span_to(e);
-        return ParamScan::Param(
-            ParamRecord {
-                name,
-                value,
-                form: 0,
-            },
-            k,
-        );
+    if k.sees(s, b'=') {
+        return past_value(s, name, k.past_octet(s).past_blanks(s));
     }
-    match past_value(s, k.past_octet(s).past_blanks(s)) {
-        ValueScan::NoValue(p) => ParamScan::NoParam(p),
-        ValueScan::Value(value, form, c) => ParamScan::Param(ParamRecord { name, value, form }, c),
-    }
+    let value = e.span_to(e);
+    ParamScan::Param(
+        ParamRecord {
+            name,
+            value,
+            form: 0,
+        },
+        k,
+    )
 }

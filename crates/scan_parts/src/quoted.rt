@@ -1,9 +1,22 @@
 // The inside of a quoted string, up to its closing quote.
 ghost use Prim.Native.Nat.{_≤_};
 ghost use lib.ListN.{length};
-ghost use Rattle.scan_parts.specs.Scanned.{InsideScanned};
+ghost use Rattle.octets.specs.Sets.{isEscapable};
+ghost use Rattle.scan_parts.specs.Scanned.{OneScanned, InsideScanned};
 use crate::Scan;
 use cursor::Cursor;
+
+// One octet that may follow a backslash.
+fn past_escapable(s: &[u8], c: Cursor) -> Scan
+    ensures { λ r. ⌜ OneScanned isEscapable (now (s .entry)) (c .at .0) r ⌝ }
+{
+    let at = c.at;
+    let i = at.0;
+    if i < s.len() && octets::sets::is_escapable(s[i]) {
+        return Scan::Past(c.past_octet(s));
+    }
+    Scan::Stuck(at)
+}
 
 pub fn past_inside(s: &[u8], from: Cursor) -> Scan
     requires { ⌜ from .at .0 ≤ length (now s) ⌝ }
@@ -11,26 +24,20 @@ pub fn past_inside(s: &[u8], from: Cursor) -> Scan
 {
     let mut c = from.past_plain(s);
     loop {
-        let at = c.at;
-        let i = at.0;
-        if i >= s.len() {
-            return Scan::Stuck(at);
-        }
-        if s[i] == b'"' {
+        if c.sees(s, b'"') {
             return Scan::Past(c);
         }
-        if s[i] != b'\\' {
+        if !c.sees(s, b'\\') {
+            let at = c.at;
             return Scan::Stuck(at);
         }
-        let d = c.past_octet(s);
-        let second = d.at;
-        let j = second.0;
-        if j >= s.len() {
-            return Scan::Stuck(second);
+        match past_escapable(s, c.past_octet(s)) {
+            Scan::Stuck(p) => {
+                return Scan::Stuck(p);
+            }
+            Scan::Past(d) => {
+                c = d.past_plain(s);
+            }
         }
-        if !octets::sets::is_escapable(s[j]) {
-            return Scan::Stuck(second);
-        }
-        c = d.past_octet(s).past_plain(s);
     }
 }

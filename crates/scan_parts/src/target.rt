@@ -1,33 +1,31 @@
 // A target, up to its `>`.
 ghost use Prim.Native.Nat.{_≤_};
 ghost use lib.ListN.{length};
-ghost use Rattle.scan_parts.specs.Scanned.{TripleScanned, TargetScanned};
+ghost use Rattle.octets.specs.Sets.{isHex};
+ghost use Rattle.scan_parts.specs.Scanned.{OneScanned, TripleScanned, TargetScanned};
 use crate::Scan;
 use cursor::Cursor;
 
-// Two hex digits, behind `%`.
-fn past_triple(s: &[u8], c: Cursor) -> Scan
-    requires { ⌜ c .at .0 ≤ length (now s) ⌝ }
-    ensures { λ r. ⌜ TripleScanned (now (s .entry)) (c .at .0) r ⌝ }
+// One hex digit.
+fn past_hex(s: &[u8], c: Cursor) -> Scan
+    ensures { λ r. ⌜ OneScanned isHex (now (s .entry)) (c .at .0) r ⌝ }
 {
     let at = c.at;
     let i = at.0;
-    if i >= s.len() {
-        return Scan::Stuck(at);
+    if i < s.len() && octets::sets::is_hex(s[i]) {
+        return Scan::Past(c.past_octet(s));
     }
-    if !octets::sets::is_hex(s[i]) {
-        return Scan::Stuck(at);
+    Scan::Stuck(at)
+}
+
+// Two hex digits, behind `%`.
+fn past_triple(s: &[u8], c: Cursor) -> Scan
+    ensures { λ r. ⌜ TripleScanned (now (s .entry)) (c .at .0) r ⌝ }
+{
+    match past_hex(s, c) {
+        Scan::Stuck(p) => Scan::Stuck(p),
+        Scan::Past(d) => past_hex(s, d),
     }
-    let d = c.past_octet(s);
-    let second = d.at;
-    let j = second.0;
-    if j >= s.len() {
-        return Scan::Stuck(second);
-    }
-    if !octets::sets::is_hex(s[j]) {
-        return Scan::Stuck(second);
-    }
-    Scan::Past(d.past_octet(s))
 }
 
 // A target, up to its `>`.
@@ -37,15 +35,11 @@ pub fn past_target(s: &[u8], from: Cursor) -> Scan
 {
     let mut c = from.past_target(s);
     loop {
-        let at = c.at;
-        let i = at.0;
-        if i >= s.len() {
-            return Scan::Stuck(at);
-        }
-        if s[i] == b'>' {
+        if c.sees(s, b'>') {
             return Scan::Past(c);
         }
-        if s[i] != b'%' {
+        if !c.sees(s, b'%') {
+            let at = c.at;
             return Scan::Stuck(at);
         }
         match past_triple(s, c.past_octet(s)) {

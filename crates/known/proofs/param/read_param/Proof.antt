@@ -1,10 +1,9 @@
--- A name, and behind it no value or a value.
+-- A name, and behind it a value or none.
 use native.Mathlib.Omega.{arith}
 use mathlib.Core.Path.{refl}
-use borrow.Author.Needs.{needs}
-use borrow.Author.Tests.{not-false}
 use Rattle.scan_parts.proofs.PassedIsParsed.{flag-parsed, valued-parsed}
 use Rattle.known.proofs.KnownIsParsed.{has-name, known-value}
+use borrow.Author.Needs.{needs}
 use Rattle.known.proofs.param.read_param.Statement.{statement}
 use Rattle.known.proofs.param.read_param.Tie as tie
 
@@ -20,46 +19,40 @@ past-blanks-requires c κs = c .before .past-token .ensures .inside
 sees-requires : tie.Need-sees-requires
 sees-requires c κs = search needs
 
-span-to-requires-2 : tie.Need-span-to-requires-2
-span-to-requires-2 c κs = search needs
-
-returns : tie.Need-returns
-returns c =
-    let b1 = c .before .before .before in
-    let b2 = b1 .before .before .before .before in
-    flag-parsed (b1 .before .before .past-token .ensures) (has-name (b2 .pre) (b1 .before .before .past-token .ensures))
-    (b1 .past-blanks .ensures) (b1 .before .span-to .ensures) (c .before .before .sees .ensures) (c .before .if1 .taken)
-    (c .span-to2 .ensures) refl
-
 past-octet-requires : tie.Need-past-octet-requires
-past-octet-requires c κs = (c .before .sees .ensures .yes) (not-false (c .before .sees .result) (c .if1 .left)) .inside
+past-octet-requires c κs = ((c .before .sees .ensures .yes) (c .if1 .taken)) .inside
 
 past-blanks-requires-2 : tie.Need-past-blanks-requires-2
 past-blanks-requires-2 c κs =
-    omega (
-      arith,
-      c .past-octet .ensures,
-      (c .before .before .sees .ensures .yes) (not-false (c .before .before .sees .result) (c .before .if1 .left)) .inside,
-    )
+    omega (arith, c .past-octet .ensures, ((c .before .before .sees .ensures .yes) (c .before .if1 .taken)) .inside)
 
 read-value-requires : tie.Need-read-value-requires
 read-value-requires c κs =
-    known-value (c .before .before .before .before .before .before .before .before .pre)
-    (c .before .before .before .before .before .before .past-token .ensures)
-    (c .before .before .before .before .past-blanks .ensures)
-    ((c .before .before .before .sees .ensures .yes)
-    (not-false (c .before .before .before .sees .result) (c .before .before .if1 .left)))
-    (c .before .past-octet .ensures) (c .past-blanks2 .ensures)
+    let b1 = c .before .before .before in
+    let b2 = b1 .before .before .before in
+    known-value (b2 .before .before .pre) (b2 .past-token .ensures) (b1 .before .past-blanks .ensures)
+    ((b1 .sees .ensures .yes) (c .before .before .if1 .taken)) (c .before .past-octet .ensures) (c .past-blanks2 .ensures)
 
-returns-2 : tie.Need-returns-2
-returns-2 c =
+returns : tie.Need-returns
+returns c =
     let b1 = c .before .before .before in
     let b2 = b1 .before .before .before in
     let b3 = b2 .before .before .before in
     valued-parsed (b3 .past-token .ensures) (has-name (b3 .before .before .pre) (b3 .past-token .ensures))
     (b2 .before .past-blanks .ensures) (b2 .before .before .span-to .ensures)
-    ((b2 .sees .ensures .yes) (not-false (b2 .sees .result) (b1 .before .before .if1 .left))) (b1 .before .past-octet .ensures)
-    (b1 .past-blanks2 .ensures) (c .before .before .read-value .ensures) (refl, refl) refl
+    ((b2 .sees .ensures .yes) (b1 .before .before .if1 .taken)) (b1 .before .past-octet .ensures) (b1 .past-blanks2 .ensures)
+    (c .before .before .read-value .ensures) (refl, refl) refl
+
+span-to-requires-2 : tie.Need-span-to-requires-2
+span-to-requires-2 c κs = search needs
+
+returns-2 : tie.Need-returns-2
+returns-2 c =
+    let b1 = c .before .before .before in
+    let b2 = b1 .before .before .before .before in
+    flag-parsed (b1 .before .before .past-token .ensures) (has-name (b2 .pre) (b1 .before .before .past-token .ensures))
+    (b1 .past-blanks .ensures) (b1 .before .span-to .ensures) ((c .before .before .sees .ensures .not) (c .before .if1 .left))
+    (c .span-to2 .ensures) refl
 
 pub read-param-spec : {M : Type 1} → statement M
 read-param-spec =
@@ -69,9 +62,9 @@ read-param-spec =
     span-to-requires
     past-blanks-requires
     sees-requires
-    span-to-requires-2
-    returns
     past-octet-requires
     past-blanks-requires-2
     read-value-requires
+    returns
+    span-to-requires-2
     returns-2)

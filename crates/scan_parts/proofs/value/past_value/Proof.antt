@@ -1,5 +1,6 @@
 -- A quoted string, a token, or neither.
 use native.Mathlib.Omega.{arith}
+use mathlib.Core.Path.{refl}
 use Rattle.scan_parts.specs.Scanned.{no-value, a-value}
 use Rattle.scan_parts.proofs.ReadyBehindValue.{no-value-here}
 use Rattle.scan_parts.proofs.PassedIsParsed.{token-parsed}
@@ -16,7 +17,7 @@ past-octet-requires c κs = ((c .before .sees .ensures .yes) (c .if1 .taken)) .i
 
 past-inside-requires : tie.Need-past-inside-requires
 past-inside-requires c κs =
-    omega (arith, (c .past-octet .ensures), ((c .before .before .sees .ensures .yes) (c .before .if1 .taken)) .inside)
+    omega (arith, c .past-octet .ensures, ((c .before .before .sees .ensures .yes) (c .before .if1 .taken)) .inside)
 
 enum-known-p : tie.Need-enum-known-p
 enum-known-p c = search needs
@@ -47,7 +48,7 @@ returns-2 c =
     (b1 .before .before .past-inside .ensures) (b1 .q .given .1) (c .before .span-to .ensures) (c .past-octet2 .ensures)
 
 past-token-requires : tie.Need-past-token-requires
-past-token-requires c κs = (c .before .before .before .pre) .inside
+past-token-requires c κs = search needs
 
 returns-3 : tie.Need-returns-3
 returns-3 c =
@@ -63,7 +64,7 @@ span-to-requires-2 c κs = search needs
 returns-4 : tie.Need-returns-4
 returns-4 c =
     let b1 = c .before .before .before .before in
-    a-value (token-parsed (b1 .past-token .ensures) (c .before .if2 .left) (c .span-to2 .ensures))
+    a-value refl (token-parsed (b1 .past-token .ensures) (c .before .if2 .left) (c .span-to2 .ensures))
 
 pub past-value-spec : {M : Type 1} → statement M
 past-value-spec =
