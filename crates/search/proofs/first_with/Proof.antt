@@ -109,11 +109,10 @@ loop-again c =
 
 next-requires : tie.Need-next-requires Inv-loop2 μ-loop2 Inv-loop μ-loop Inv-search μ-search
 next-requires c κs =
-    let start = c .before .before .before .before .before .before .before .before .before .before .before .before .before .before .before .before .before .before .before in
     omega (
       arith,
       in-room (c .before .before .before .before .before .before .loop .inv .looking) (c .before .before .before .if2 .taken),
-      start .good .1 .1 .0 .0,
+      c .before .before .before .before .before .before .before .before .before .before .before .before .before .before .before .before .before .before .before .good .1 .1 .0 .0,
     )
 
 loop-less-2 : tie.Need-loop-less-2 Inv-loop2 μ-loop2 Inv-loop μ-loop Inv-search μ-search
