@@ -1,2 +1,2 @@
--- Laws of the entries for C.
-pub mod Handed
+-- What the proofs share.
+pub mod WithinSource

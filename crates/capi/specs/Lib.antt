@@ -1,3 +1,2 @@
--- What the numbers that C gets stand for.
-pub mod Answers
+-- What the numbers that C gets of a context stand for.
 pub mod Part

@@ -1,8 +1,6 @@
-// The entries for C. Each asks an entry of the library and turns its answer into the numbers that C gets. A slice is passed as
-// a pointer and a count.
+// The entries for C. Each asks an entry of the library and hands on the numbers of its answer. A slice is passed as a pointer and
+// a count, and bare numbers become link numbers and counts here.
 pub mod context;
-pub mod length;
-pub mod number;
 pub mod read;
 pub mod search;
 pub mod value;

@@ -3,6 +3,7 @@ ghost use Rattle.columns.specs.LineHolds.{LineHolds};
 ghost use Rattle.records.specs.Slots.{linkNumbers, paramNumbers};
 ghost use Rattle.lines.specs.FinalLf.{IsTrimmed};
 ghost use Rattle.lines.specs.Line.{countsLine, linkLine, paramLine, refusalLine};
+use answers::read::ReadNumbers;
 use columns::Line;
 use columns::line_of;
 use kinds::Counts;
@@ -31,10 +32,11 @@ pub fn param_line(number: ParamNumber, param: ParamRecord) -> Line
     line_of(b"param", number.0, &fields)
 }
 
-pub fn refusal_line(number: usize, place: usize) -> Line
-    ensures { λ r. ⌜ LineHolds r (refusalLine number place) ⌝ }
+// Of the numbers of reading's answer.
+pub fn refusal_line(told: ReadNumbers) -> Line
+    ensures { λ r. ⌜ LineHolds r (refusalLine (told .number) (told .place)) ⌝ }
 {
-    line_of(b"refused", number, &[place])
+    line_of(b"refused", told.number, &[told.place])
 }
 
 // What stands before one final LF, if there.

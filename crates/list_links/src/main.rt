@@ -1,19 +1,21 @@
 // Lists the Link field value on standard input, without the LF that ends it, if there.
 
-// What stands before one final LF, if there.
-fn without_end(s: &[u8]) -> &[u8] {
-    let n = s.len();
-    if 0 < n && s[n - 1] == b'\n' {
-        return &s[..n - 1];
-    }
-    s
-}
+// Room for the longest field value, the LF behind it, and one octet more, which tells that there is too much.
+const INPUT: usize = answers::LIMIT + 2;
 
-// An octet past the longest field value and its LF tells whether there is more. Room for 256 links and 1,024 parameters.
+// Room for 256 links and 1,024 parameters.
+const LINKS: usize = 256 * records::LINK_SLOTS;
+
+const PARAMS: usize = 1024 * records::PARAM_SLOTS;
+
 fn main() {
-    let mut input = [0u8; 8194];
+    let mut input = [0u8; INPUT];
     let n = io::read_full(0, &mut input);
-    let mut links = [0usize; 1024];
-    let mut params = [0usize; 5120];
-    listing::list(without_end(&input[..n]), &mut links, &mut params);
+    let mut links = [0usize; LINKS];
+    let mut params = [0usize; PARAMS];
+    listing::list(
+        lines::without_final_lf(&input[..n]),
+        &mut links,
+        &mut params,
+    );
 }

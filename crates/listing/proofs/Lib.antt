@@ -1,2 +1,2 @@
--- What the proofs of the crate `listing` rest on.
-pub mod Links
+-- What the proofs share.
+pub mod TableLeft

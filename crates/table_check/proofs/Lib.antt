@@ -1,4 +1,2 @@
--- What the proofs share: values by their form, and the loops over parameters and links.
-mod Values
-mod OfParams
+-- What the proofs share: the loop over the links.
 mod OfLinks

@@ -1,3 +1,2 @@
 -- What the crate `table_check` means by its words.
-pub mod Params
 pub mod State

@@ -6,7 +6,6 @@ use answers::Refusal;
 use kinds::Counts;
 
 mod links;
-mod params;
 
 // The table may be used, or is refused.
 pub enum TableState {

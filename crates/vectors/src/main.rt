@@ -3,7 +3,7 @@
 ghost use mathlib.Core.Path.{_≡_};
 ghost use Prim.Native.Nat.{_<_, _≤_};
 ghost use lib.ListN.{length};
-use reader::ReadAnswer;
+use answers::read::ReadAnswer;
 
 mod ask;
 
@@ -14,8 +14,8 @@ fn list_header(header: &[u8]) {
     io::write_all(1, b"\n");
     let mut links = [0usize; 1024];
     let mut params = [0usize; 5120];
-    if let ReadAnswer::Done(n, m) = listing::list(header, &mut links, &mut params) {
-        ask::all(header, &links, &params, n, m);
+    if let ReadAnswer::Done(counts) = listing::list(header, &mut links, &mut params) {
+        ask::all(header, &links, &params, counts);
     }
 }
 

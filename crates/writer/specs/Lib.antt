@@ -1,7 +1,2 @@
 -- What the crate `writer` means by its words.
-pub mod Answer
-pub mod Forms
-pub mod Put
-pub mod Measured
-pub mod Shape
-pub mod Tells
+pub mod Related

@@ -1,55 +1,42 @@
 // Whether the links have relations.
 ghost use mathlib.Core.Path.{_≡_};
 ghost use mathlib.Core.Bool.{not};
-ghost use Prim.Native.Nat.{_<_};
+ghost use Rattle.named.specs.First.{Listed};
 ghost use Rattle.outcomes.specs.Usable.{Usable};
-ghost use Rattle.outcomes.specs.Write.{relationsAt};
+ghost use Rattle.records.specs.Slots.{toLink};
+ghost use Rattle.runs.specs.Runs.{isNone};
+ghost use Rattle.tables.specs.Relation.{relations};
 ghost use Rattle.tables.specs.Table.{tableOf};
-ghost use Rattle.values.specs.Runs.{isNone};
-ghost use Rattle.writer.specs.Tells.{Tells};
+ghost use Rattle.writer.specs.Related.{TellsRelated};
+use kinds::Counts;
 use kinds::LinkNumber;
-use lookup::named::is_rel;
-use values::runs::has_runs;
+use named::Named;
+use named::first_of;
+use names::REL;
+use records::LinkRecord;
+use runs::has_runs;
 
 // Whether a link has a relation: its first `rel` is asked, and no other.
-fn is_related(
-    text: &[u8],
-    links: &[usize],
-    params: &[usize],
-    link_count: usize,
-    param_count: usize,
-    link: LinkNumber,
-) -> bool
-    requires { ⌜ Usable (tableOf (now text) (now links) (now params) «link_count» «param_count») × (link .0 < «link_count») ⌝ }
-    ensures { λ r. ⌜ r ≡ not (isNone (relationsAt (tableOf (now (text .entry)) (now (links .entry)) (now (params .entry)) «link_count» «param_count») (link .0))) ⌝ }
+fn is_related(text: &[u8], params: &[usize], l: LinkRecord) -> bool
+    requires { ⌜ Listed (now text) (now params) l ⌝ }
+    ensures { λ r. ⌜ r ≡ not (isNone (relations (now (text .entry)) (toLink (now (params .entry)) l))) ⌝ }
 {
-    let l = kinds::link_at(links, link);
-    let mut p = l.first;
-    let end = p.plus(l.count);
-    while p.0 < end.0 {
-        let param = kinds::param_at(params, p);
-        if is_rel(text, param) {
-            return has_runs(text, param.value.from.0, param.value.to.0);
-        }
-        p = p.next();
+    let rel = first_of(text, params, l, REL);
+    match rel {
+        Named::Found(p) => has_runs(text, p.value),
+        Named::Absent => false,
     }
-    false
 }
 
 // Whether every link has a relation.
-pub fn all_related(
-    text: &[u8],
-    links: &[usize],
-    params: &[usize],
-    link_count: usize,
-    param_count: usize,
-) -> bool
-    requires { ⌜ Usable (tableOf (now text) (now links) (now params) «link_count» «param_count») ⌝ }
-    ensures { λ r. ⌜ Tells (tableOf (now (text .entry)) (now (links .entry)) (now (params .entry)) «link_count» «param_count») r ⌝ }
+pub fn all_related(text: &[u8], links: &[usize], params: &[usize], counts: Counts) -> bool
+    requires { ⌜ Usable (tableOf (now text) (now links) (now params) (counts .links) (counts .params)) ⌝ }
+    ensures { λ r. ⌜ TellsRelated (tableOf (now (text .entry)) (now (links .entry)) (now (params .entry)) (counts .links) (counts .params)) r ⌝ }
 {
     let mut i = LinkNumber::first();
-    while i.0 < link_count {
-        if !is_related(text, links, params, link_count, param_count, i) {
+    while i.0 < counts.links {
+        let l = records::link_at(links, i);
+        if !is_related(text, params, l) {
             return false;
         }
         i = i.next();

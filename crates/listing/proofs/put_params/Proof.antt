@@ -19,8 +19,11 @@ plus-requires c κs = search needs
 param-at-requires : tie.Need-param-at-requires Inv-loop μ-loop
 param-at-requires c κs = search needs
 
-put-param-requires : tie.Need-put-param-requires Inv-loop μ-loop
-put-param-requires c κs = search needs
+param-line-requires : tie.Need-param-line-requires Inv-loop μ-loop
+param-line-requires c κs = search needs
+
+put-requires : tie.Need-put-requires Inv-loop μ-loop
+put-requires c κs = search needs
 
 add-k : tie.Need-add-k Inv-loop μ-loop
 add-k c = search needs
@@ -43,7 +46,8 @@ put-params-spec =
     loop-holds
     plus-requires
     param-at-requires
-    put-param-requires
+    param-line-requires
+    put-requires
     add-k
     loop-less
     loop-again

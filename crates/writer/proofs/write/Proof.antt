@@ -7,40 +7,32 @@ use Rattle.writer.proofs.write.Tie as tie
 state-of-requires : tie.Need-state-of-requires
 state-of-requires c κs = search needs
 
+enum-known-state : tie.Need-enum-known-state
+enum-known-state c = search needs
+
 enum-told : tie.Need-enum-told
 enum-told c = search needs
 
-enum-told-2 : tie.Need-enum-told-2
-enum-told-2 c = search needs
-
-enum-told-3 : tie.Need-enum-told-3
-enum-told-3 c = search needs
-
 write-table-requires : tie.Need-write-table-requires
-write-table-requires c κs = rw (c .before .enum-told3 .given .1) at (c .before .before .before .state-of .ensures)
+write-table-requires c κs = rw (c .before .enum-told .given .1) at (c .before .before .before .state-of .ensures)
 
 returns : tie.Need-returns
-returns c = refused (rw (c .enum-told .given .1) at (c .before .before .state-of .ensures))
-
-returns-2 : tie.Need-returns-2
-returns-2 c = refused (rw (c .enum-told2 .given .1) at (c .before .before .state-of .ensures))
+returns c = refused (rw (c .before .state .given .1) at (c .before .before .before .state-of .ensures))
 
 same-length : tie.Need-same-length
 same-length c = search needs
 
-returns-3 : tie.Need-returns-3
-returns-3 c = search needs
+returns-2 : tie.Need-returns-2
+returns-2 c = search needs
 
 pub write-spec : {M : Type 1} → statement M
 write-spec =
     tie.close
     (tie.spec
     state-of-requires
+    enum-known-state
     enum-told
-    enum-told-2
-    enum-told-3
     write-table-requires
     returns
-    returns-2
     same-length
-    returns-3)
+    returns-2)

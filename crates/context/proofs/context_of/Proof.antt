@@ -1,0 +1,41 @@
+-- A refused table is refused, and a link that is not there.
+use borrow.Author.Needs.{needs}
+use Rattle.outcomes.specs.Context.{refused, no-such-link}
+use Rattle.context.proofs.context_of.Statement.{statement}
+use Rattle.context.proofs.context_of.Tie as tie
+
+state-of-requires : tie.Need-state-of-requires
+state-of-requires c κs = search needs
+
+enum-known-state : tie.Need-enum-known-state
+enum-known-state c = search needs
+
+enum-told : tie.Need-enum-told
+enum-told c = search needs
+
+anchor-of-requires : tie.Need-anchor-of-requires
+anchor-of-requires c κs = (rw (c .before .before .before .enum-told .given .1) at (c .before .before .before .before .before .state-of .ensures), c .if1 .taken)
+
+returns : tie.Need-returns
+returns c =
+    record { outcome = λ base. refused (rw (c .before .state .given .1) at (c .before .before .before .state-of .ensures)); within = tt }
+
+returns-2 : tie.Need-returns-2
+returns-2 c = search needs
+
+returns-3 : tie.Need-returns-3
+returns-3 c =
+    let usable = rw (c .before .before .before .enum-told .given .1) at (c .before .before .before .before .before .state-of .ensures) in
+    record { outcome = λ base. no-such-link usable (c .if1 .left); within = tt }
+
+pub context-of-spec : {M : Type 1} → statement M
+context-of-spec =
+    tie.close
+    (tie.spec
+    state-of-requires
+    enum-known-state
+    enum-told
+    anchor-of-requires
+    returns
+    returns-2
+    returns-3)

@@ -1,0 +1,2 @@
+-- What the crate `context` means by its words.
+pub mod Part

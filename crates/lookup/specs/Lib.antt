@@ -1,4 +1,0 @@
--- What the crate `lookup` means by its words.
-pub mod Answers
-pub mod State
-pub mod Part

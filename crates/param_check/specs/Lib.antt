@@ -1,0 +1,2 @@
+-- What the crate `param_check` means by its words.
+pub mod Params
