@@ -15,32 +15,48 @@ link-at-requires c κs = search needs
 returns-2 : tie.Need-returns-2
 returns-2 c =
     let link = c .before .before in
-    no-such-param (link .before .before .before .before .before .before .before .before .pre) (link .before .if1 .left)
-    (counted (link .before .before .before .before .before .before .before .before .pre) (link .before .if1 .left) (link .link-at .ensures) (c .if2 .taken))
+    let start = link .before .before .before .before .before .before .before .before in
+    no-such-param (start .pre) (link .before .if1 .left)
+    (counted (start .pre) (link .before .if1 .left) (link .link-at .ensures) (c .if2 .taken))
 
 plus-requires : tie.Need-plus-requires
 plus-requires c κs =
     let link = c .before .before in
-    omega (arith, in-room (link .before .before .before .before .before .before .before .before .pre) (link .before .if1 .left) (link .link-at .ensures) (c .if2 .left), link .before .before .before .before .before .before .before .before .good .1 .1 .0 .0)
+    let start = link .before .before .before .before .before .before .before .before in
+    omega (
+      arith,
+      in-room (start .pre) (link .before .if1 .left) (link .link-at .ensures) (c .if2 .left),
+      start .good .1 .1 .0 .0,
+    )
 
 param-at-requires : tie.Need-param-at-requires
 param-at-requires c κs =
     let link = c .before .before .before in
-    rw (c .plus .ensures) (in-room (link .before .before .before .before .before .before .before .before .pre) (link .before .if1 .left) (link .link-at .ensures) (c .before .if2 .left))
+    let start = link .before .before .before .before .before .before .before .before in
+    rw (c .plus .ensures)
+    (in-room (start .pre) (link .before .if1 .left) (link .link-at .ensures) (c .before .if2 .left))
 
 meaning-len-requires : tie.Need-meaning-len-requires
 meaning-len-requires c κs =
     let found = c .before in
     let link = found .before .before .before .before in
-    let w = at-index (link .before .before .before .before .before .before .before .before .pre) (link .before .if1 .left) (link .link-at .ensures) (found .before .before .if2 .left) (found .before .plus .ensures) (found .param-at .ensures) in
+    let start = link .before .before .before .before .before .before .before .before in
+    let w =
+    at-index (start .pre) (link .before .if1 .left) (link .link-at .ensures) (found .before .before .if2 .left)
+    (found .before .plus .ensures) (found .param-at .ensures)
+    in
     value-inside w
 
 returns-3 : tie.Need-returns-3
 returns-3 c =
     let found = c .before .before .before in
     let link = found .before .before .before .before in
-    let w = at-index (link .before .before .before .before .before .before .before .before .pre) (link .before .if1 .left) (link .link-at .ensures) (found .before .before .if2 .left) (found .before .plus .ensures) (found .param-at .ensures) in
-    short-buffer w (link .before .before .before .before .before .before .before .before .args .out .now) (c .before .meaning-len .ensures) (c .if3 .taken)
+    let start = link .before .before .before .before .before .before .before .before in
+    let w =
+    at-index (start .pre) (link .before .if1 .left) (link .link-at .ensures) (found .before .before .if2 .left)
+    (found .before .plus .ensures) (found .param-at .ensures)
+    in
+    short-buffer w (start .args .out .now) (c .before .meaning-len .ensures) (c .if3 .taken)
 
 start-requires : tie.Need-start-requires
 start-requires c κs = search needs
@@ -49,7 +65,11 @@ copy-meaning-requires : tie.Need-copy-meaning-requires
 copy-meaning-requires c κs =
     let found = c .before .before .before .before .before in
     let link = found .before .before .before .before in
-    let w = at-index (link .before .before .before .before .before .before .before .before .pre) (link .before .if1 .left) (link .link-at .ensures) (found .before .before .if2 .left) (found .before .plus .ensures) (found .param-at .ensures) in
+    let start = link .before .before .before .before .before .before .before .before in
+    let w =
+    at-index (start .pre) (link .before .if1 .left) (link .link-at .ensures) (found .before .before .if2 .left)
+    (found .before .plus .ensures) (found .param-at .ensures)
+    in
     (value-inside w, omega (arith, c .before .before .before .meaning-len .ensures, c .before .before .if3 .left, c .start .ensures))
 
 same-length : tie.Need-same-length
@@ -59,8 +79,13 @@ returns-4 : tie.Need-returns-4
 returns-4 c =
     let found = c .before .before .before .before .before .before .before .before in
     let link = found .before .before .before .before in
-    let w = at-index (link .before .before .before .before .before .before .before .before .pre) (link .before .if1 .left) (link .link-at .ensures) (found .before .before .if2 .left) (found .before .plus .ensures) (found .param-at .ensures) in
-    all-copied w (c .before .before .before .before .before .before .meaning-len .ensures) (c .before .before .before .before .before .if3 .left) (c .before .before .before .start .ensures) (c .before .before .copy-meaning .ensures)
+    let start = link .before .before .before .before .before .before .before .before in
+    let w =
+    at-index (start .pre) (link .before .if1 .left) (link .link-at .ensures) (found .before .before .if2 .left)
+    (found .before .plus .ensures) (found .param-at .ensures)
+    in
+    all-copied w (c .before .before .before .before .before .before .meaning-len .ensures) (c .before .before .before .before .before .if3 .left)
+    (c .before .before .before .start .ensures) (c .before .before .copy-meaning .ensures)
 
 pub copy-at-spec : {M : Type 1} → statement M
 copy-at-spec =

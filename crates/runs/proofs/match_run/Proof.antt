@@ -30,7 +30,8 @@ meant-at-requires c κs = omega arith
 returns : tie.Need-returns Inv-loop μ-loop
 returns c =
     let pre′ = c .before .before .before .before .before .before .before .before .before .before .pre in
-    match-none (c .before .before .before .before .before .before .before .loop .inv) (pre′ .2) (c .before .before .before .meant-at .ensures) refl (pre′ .0) (c .if2 .taken)
+    let loop′ = c .before .before .before .before .before .before .before .loop in
+    match-none (loop′ .inv) (pre′ .2) (c .before .before .before .meant-at .ensures) refl (pre′ .0) (c .if2 .taken)
 
 shared-slice-read-c : tie.Need-shared-slice-read-c Inv-loop μ-loop
 shared-slice-read-c c = omega arith
@@ -38,7 +39,9 @@ shared-slice-read-c c = omega arith
 returns-2 : tie.Need-returns-2 Inv-loop μ-loop
 returns-2 c =
     let pre′ = c .before .before .before .before .before .before .before .before .before .before .before .before .pre in
-    match-stop (c .before .before .before .before .before .before .before .before .before .loop .inv) (pre′ .2) (c .before .before .before .before .before .meant-at .ensures) refl (c .before .before .if2 .left) (c .if3 .taken)
+    let loop′ = c .before .before .before .before .before .before .before .before .before .loop in
+    let meant-at′ = c .before .before .before .before .before .meant-at in
+    match-stop (loop′ .inv) (pre′ .2) (meant-at′ .ensures) refl (c .before .before .if2 .left) (c .if3 .taken)
 
 agrees-requires : tie.Need-agrees-requires Inv-loop μ-loop
 agrees-requires c κs = search needs
@@ -48,13 +51,17 @@ next-requires c κs = omega arith
 
 skip-requires : tie.Need-skip-requires Inv-loop μ-loop
 skip-requires c κs =
-    record { ordered = omega (arith, c .next .ensures); inside = c .before .before .before .before .before .before .before .before .before .before .before .before .before .before .before .pre .1 }
+    let start = c .before .before .before .before .before .before .before .before .before .before .before .before .before .before .before in
+    record { ordered = omega (arith, c .next .ensures); inside = start .pre .1 }
 
 returns-3 : tie.Need-returns-3 Inv-loop μ-loop
 returns-3 c =
     let pre′ = c .before .before .before .before .before .before .before .before .before .before .before .before .before .before .before .before .pre in
     let differs = sym (c .before .before .before .agrees .ensures) ∙ not-true _ (c .before .before .if4 .taken) in
-    match-differs (c .before .before .before .before .before .before .before .before .before .before .before .before .before .loop .inv) (pre′ .2) (c .before .before .before .before .before .before .before .before .before .meant-at .ensures) (c .before .before .before .before .before .before .if2 .left) (c .before .before .before .before .if3 .left) differs
+    let loop′ = c .before .before .before .before .before .before .before .before .before .before .before .before .before .loop in
+    let meant-at′ = c .before .before .before .before .before .before .before .before .before .meant-at in
+    let if2′ = c .before .before .before .before .before .before .if2 in
+    match-differs (loop′ .inv) (pre′ .2) (meant-at′ .ensures) (if2′ .left) (c .before .before .before .before .if3 .left) differs
     (rw (c .before .next .ensures) at (c .skip .ensures))
 
 add-i : tie.Need-add-i Inv-loop μ-loop
@@ -70,12 +77,16 @@ loop-again : tie.Need-loop-again Inv-loop μ-loop
 loop-again c =
     let pre′ = c .before .before .before .before .before .before .before .before .before .before .before .before .before .before .before .pre in
     let agreed = sym (c .before .before .agrees .ensures) ∙ not-false _ (c .before .if4 .left) in
+    let loop′ = c .before .before .before .before .before .before .before .before .before .before .before .before .loop in
+    let meant-at′ = c .before .before .before .before .before .before .before .before .meant-at in
+    let if2′ = c .before .before .before .before .before .if2 in
     rw (c .next2 .ensures)
-    (match-more (c .before .before .before .before .before .before .before .before .before .before .before .before .loop .inv) (pre′ .2) (c .before .before .before .before .before .before .before .before .meant-at .ensures) (c .before .before .before .before .before .if2 .left) (c .before .before .before .if3 .left) agreed)
+    (match-more (loop′ .inv) (pre′ .2) (meant-at′ .ensures) (if2′ .left) (c .before .before .before .if3 .left) agreed)
 
 returns-4 : tie.Need-returns-4 Inv-loop μ-loop
 returns-4 c =
-    let pre′ = c .before .before .before .before .before .before .pre in match-end (c .before .before .before .loop .inv) (pre′ .2) refl (pre′ .0) (c .if1 .left)
+    let pre′ = c .before .before .before .before .before .before .pre in
+    match-end (c .before .before .before .loop .inv) (pre′ .2) refl (pre′ .0) (c .if1 .left)
 
 pub match-run-spec : {M : Type 1} → statement M
 match-run-spec =

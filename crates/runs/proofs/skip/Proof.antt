@@ -20,14 +20,18 @@ meant-at-requires : tie.Need-meant-at-requires Inv-loop μ-loop
 meant-at-requires c κs = omega arith
 
 returns : tie.Need-returns Inv-loop μ-loop
-returns c = skip-none (c .before .before .before .before .before .before .before .loop .inv) (c .before .before .before .meant-at .ensures) (c .if2 .taken)
+returns c =
+    skip-none (c .before .before .before .before .before .before .before .loop .inv)
+    (c .before .before .before .meant-at .ensures) (c .if2 .taken)
 
 shared-slice-read-if3 : tie.Need-shared-slice-read-if3 Inv-loop μ-loop
 shared-slice-read-if3 c = omega arith
 
 returns-2 : tie.Need-returns-2 Inv-loop μ-loop
 returns-2 c =
-    skip-stop (c .before .before .before .before .before .before .before .before .before .loop .inv) (c .before .before .before .before .before .meant-at .ensures) (c .before .before .if2 .left) (not-true _ (c .if3 .taken))
+    let loop′ = c .before .before .before .before .before .before .before .before .before .loop in
+    let meant-at′ = c .before .before .before .before .before .meant-at in
+    skip-stop (loop′ .inv) (meant-at′ .ensures) (c .before .before .if2 .left) (not-true _ (c .if3 .taken))
 
 next-requires : tie.Need-next-requires Inv-loop μ-loop
 next-requires c κs = omega arith
@@ -37,8 +41,10 @@ loop-less c = omega arith
 
 loop-again : tie.Need-loop-again Inv-loop μ-loop
 loop-again c =
+    let loop′ = c .before .before .before .before .before .before .before .before .before .before .loop in
+    let meant-at′ = c .before .before .before .before .before .before .meant-at in
     rw (c .next .ensures)
-    (skip (c .before .before .before .before .before .before .before .before .before .before .loop .inv) (c .before .before .before .before .before .before .meant-at .ensures) (c .before .before .before .if2 .left) (not-false _ (c .before .if3 .left)))
+    (skip (loop′ .inv) (meant-at′ .ensures) (c .before .before .before .if2 .left) (not-false _ (c .before .if3 .left)))
 
 returns-3 : tie.Need-returns-3 Inv-loop μ-loop
 returns-3 c = skipped (c .before .before .before .loop .inv) (c .if1 .left)

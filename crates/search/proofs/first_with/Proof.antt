@@ -60,7 +60,8 @@ plus-requires c κs =
 loop-holds : tie.Need-loop-holds Inv-loop2 μ-loop2 Inv-loop μ-loop Inv-search μ-search
 loop-holds c =
     let start = c .before .before .before .before .before .before .before .before .before .before .before .before in
-    rw (c .plus .ensures) (first-param (start .args .relation .now) (start .pre) (c .before .before .before .if1 .left) (c .before .before .link-at .ensures))
+    rw (c .plus .ensures)
+    (first-param (start .args .relation .now) (start .pre) (c .before .before .before .if1 .left) (c .before .before .link-at .ensures))
 
 param-at-requires : tie.Need-param-at-requires Inv-loop2 μ-loop2 Inv-loop μ-loop Inv-search μ-search
 param-at-requires c κs = in-room (c .before .before .before .loop .inv .looking) (c .if2 .taken)
@@ -71,7 +72,8 @@ code-requires c κs =
 
 next-run-requires : tie.Need-next-run-requires Inv-loop2 μ-loop2 Inv-loop μ-loop Inv-search μ-search
 next-run-requires c κs =
-    good-here (c .before .before .before .before .before .before .before .loop .inv .looking) (c .before .before .before .before .if2 .taken) (c .before .before .before .param-at .ensures) .value-span
+    good-here (c .before .before .before .before .before .before .before .loop .inv .looking)
+    (c .before .before .before .before .if2 .taken) (c .before .before .before .param-at .ensures) .value-span
 
 loop2-holds : tie.Need-loop2-holds Inv-loop2 μ-loop2 Inv-loop μ-loop Inv-search μ-search
 unfolding nameOf
@@ -94,17 +96,24 @@ loop2-less c =
 
 loop2-again : tie.Need-loop2-again Inv-loop2 μ-loop2 Inv-loop μ-loop Inv-search μ-search
 loop2-again c =
-    next-one (c .before .before .before .before .before .before .loop2 .inv) (c .before .before .match-run .ensures) (c .before .if5 .left) (c .next-run2 .ensures)
+    let loop2′ = c .before .before .before .before .before .before .loop2 in
+    next-one (loop2′ .inv) (c .before .before .match-run .ensures) (c .before .if5 .left) (c .next-run2 .ensures)
 
 loop-less : tie.Need-loop-less Inv-loop2 μ-loop2 Inv-loop μ-loop Inv-search μ-search
 loop-less c = omega (arith, c .before .before .before .before .before .before .before .before .before .if2 .taken)
 
 loop-again : tie.Need-loop-again Inv-loop2 μ-loop2 Inv-loop μ-loop Inv-search μ-search
-loop-again c = unrelated (c .before .before .before .before .before .before .before .before .before .before .before .before .loop .inv) (c .before .before .before .loop2 .inv) (c .if4 .left)
+loop-again c =
+    let loop′ = c .before .before .before .before .before .before .before .before .before .before .before .before .loop in
+    unrelated (loop′ .inv) (c .before .before .before .loop2 .inv) (c .if4 .left)
 
 next-requires : tie.Need-next-requires Inv-loop2 μ-loop2 Inv-loop μ-loop Inv-search μ-search
 next-requires c κs =
-    omega (arith, in-room (c .before .before .before .before .before .before .loop .inv .looking) (c .before .before .before .if2 .taken), c .before .before .before .before .before .before .before .before .before .before .before .before .before .before .before .before .before .before .before .good .1 .1 .0 .0)
+    omega (
+      arith,
+      in-room (c .before .before .before .before .before .before .loop .inv .looking) (c .before .before .before .if2 .taken),
+      c .before .before .before .before .before .before .before .before .before .before .before .before .before .before .before .before .before .before .before .good .1 .1 .0 .0,
+    )
 
 loop-less-2 : tie.Need-loop-less-2 Inv-loop2 μ-loop2 Inv-loop μ-loop Inv-search μ-search
 loop-less-2 c = omega (arith, c .next .ensures, c .before .before .before .before .if2 .taken)
@@ -127,16 +136,21 @@ search-less c = omega (arith, c .next2 .ensures, c .before .before .before .befo
 
 search-again : tie.Need-search-again Inv-loop2 μ-loop2 Inv-loop μ-loop Inv-search μ-search
 search-again c =
-    rw (c .next2 .ensures) (one-more (c .before .before .before .before .before .before .before .before .before .before .before .search .inv) (none-related (c .before .before .before .before .loop .inv) (c .before .if2 .left)))
+    let search′ = c .before .before .before .before .before .before .before .before .before .before .before .search in
+    rw (c .next2 .ensures) (one-more (search′ .inv) (none-related (c .before .before .before .before .loop .inv) (c .before .if2 .left)))
 
 returns : tie.Need-returns Inv-loop2 μ-loop2 Inv-loop μ-loop Inv-search μ-search
-returns c = no-link (c .before .before .before .before .before .before .before .before .before .pre) (λ i h. c .before .before .before .search .inv i (omega (arith, c .if1 .taken)))
+returns c =
+    let start = c .before .before .before .before .before .before .before .before .before in
+    no-link (start .pre) (λ i h. c .before .before .before .search .inv i (omega (arith, c .if1 .taken)))
 
 returns-2 : tie.Need-returns-2 Inv-loop2 μ-loop2 Inv-loop μ-loop Inv-search μ-search
 returns-2 c =
     let loop′ = c .before .before .before .before .before .before .before .before .before .before .before .before .before .before .loop in
-    found (loop′ .inv .usable) (loop′ .inv .is-link) (matched (c .before .before .before .before .before .loop2 .inv) (c .before .match-run .ensures) (c .if5 .taken))
-    (c .before .before .before .before .before .before .before .before .before .before .before .before .before .before .before .before .before .before .before .before .before .search .inv)
+    let loop2′ = c .before .before .before .before .before .loop2 in
+    let search′ = c .before .before .before .before .before .before .before .before .before .before .before .before .before .before .before .before .before .before .before .before .before .search in
+    found (loop′ .inv .usable) (loop′ .inv .is-link) (matched (loop2′ .inv) (c .before .match-run .ensures) (c .if5 .taken))
+    (search′ .inv)
 
 pub first-with-spec : {M : Type 1} → statement M
 first-with-spec =

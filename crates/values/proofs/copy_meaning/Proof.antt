@@ -24,18 +24,22 @@ same-length : tie.Need-same-length Inv-loop μ-loop
 same-length c = omega arith
 
 returns : tie.Need-returns Inv-loop μ-loop
-returns c = finish (onto (c .before .before .before .meant-at .ensures .none (c .if2 .taken)) (c .before .before .before .before .before .before .before .loop .inv .1))
+returns c =
+    let loop′ = c .before .before .before .before .before .before .before .loop in
+    finish (onto (c .before .before .before .meant-at .ensures .none (c .if2 .taken)) (loop′ .inv .1))
 
 shared-slice-read-out : tie.Need-shared-slice-read-out Inv-loop μ-loop
 shared-slice-read-out c = omega arith
 
 slice-write-out : tie.Need-slice-write-out Inv-loop μ-loop
 slice-write-out c =
-    octet-room (onto (octet-step (c .before .before .before .before .meant-at .ensures) (c .before .if2 .left)) (c .before .before .before .before .before .before .before .before .loop .inv .1))
+    let loop′ = c .before .before .before .before .before .before .before .before .loop in
+    octet-room (onto (octet-step (c .before .before .before .before .meant-at .ensures) (c .before .if2 .left)) (loop′ .inv .1))
 
 next-requires : tie.Need-next-requires Inv-loop μ-loop
 next-requires c κs =
-    omega (arith, octet-room (onto (octet-step (c .before .before .before .before .meant-at .ensures) (c .before .if2 .left)) (c .before .before .before .before .before .before .before .before .loop .inv .1)))
+    let loop′ = c .before .before .before .before .before .before .before .before .loop in
+    omega (arith, octet-room (onto (octet-step (c .before .before .before .before .meant-at .ensures) (c .before .if2 .left)) (loop′ .inv .1)))
 
 next-requires-2 : tie.Need-next-requires-2 Inv-loop μ-loop
 next-requires-2 c κs = omega arith
@@ -45,14 +49,18 @@ loop-less c = omega arith
 
 loop-again : tie.Need-loop-again Inv-loop μ-loop
 loop-again c =
+    let loop′ = c .before .before .before .before .before .before .before .before .before .before .loop in
+    let meant-at′ = c .before .before .before .before .before .before .meant-at in
     rw (c .next2 .ensures, c .before .next .ensures)
-    (omega arith, octet (onto (octet-step (c .before .before .before .before .before .before .meant-at .ensures) (c .before .before .before .if2 .left)) (c .before .before .before .before .before .before .before .before .before .before .loop .inv .1)))
+    (omega arith, octet (onto (octet-step (meant-at′ .ensures) (c .before .before .before .if2 .left)) (loop′ .inv .1)))
 
 same-length-2 : tie.Need-same-length-2 Inv-loop μ-loop
 same-length-2 c = omega arith
 
 returns-2 : tie.Need-returns-2 Inv-loop μ-loop
-returns-2 c = finish (onto (none-left (c .before .before .before .before .before .before .before .before .args .s .now) (c .if1 .left)) (c .before .before .before .loop .inv .1))
+returns-2 c =
+    let start = c .before .before .before .before .before .before .before .before in
+    finish (onto (none-left (start .args .s .now) (c .if1 .left)) (c .before .before .before .loop .inv .1))
 
 pub copy-meaning-spec : {M : Type 1} → statement M
 copy-meaning-spec =
