@@ -1,7 +1,7 @@
--- What is written fits the buffer.
+-- As many octets as are answered stand in the buffer.
 use native.Mathlib.Omega.{arith}
 use lib.ListN.{length-take}
-use Rattle.vectors.proofs.Copied.{written-fits}
+use Rattle.vectors.proofs.Copied.{written-count}
 use borrow.Author.Needs.{needs}
 use Rattle.vectors.proofs.ask.written.Statement.{statement}
 use Rattle.vectors.proofs.ask.written.Tie as tie
@@ -15,91 +15,25 @@ write-all-requires c κs = search needs
 write-requires : tie.Need-write-requires
 write-requires c κs = search needs
 
-enum-known-k : tie.Need-enum-known-k
-enum-known-k c = search needs
+numbers-requires : tie.Need-numbers-requires
+numbers-requires c κs = search needs
 
 slice-reshare-prefix-put-octets : tie.Need-slice-reshare-prefix-put-octets
-slice-reshare-prefix-put-octets c =
-    written-fits (c .before .before .before .before .before .write .last .1 .1 .1 .1 .1 .0)
-    (c .before .before .before .before .before .write .ensures) (c .before .k .given .1)
+slice-reshare-prefix-put-octets c = rw (c .numbers .ensures) (written-count (c .before .before .before .write .ensures))
 
 slice-aggregate-put-octets : tie.Need-slice-aggregate-put-octets
 slice-aggregate-put-octets c =
-    simp length-take
-    (omega (
-      arith,
-      written-fits (c .before .before .before .before .before .before .write .last .1 .1 .1 .1 .1 .0)
-          (c .before .before .before .before .before .before .write .ensures) (c .before .before .k .given .1),
-    ))
+    let fits = written-count (c .before .before .before .before .write .ensures) in
+    simp length-take (omega (arith, rw (← c .before .numbers .ensures) at fits))
 
 put-octets-requires : tie.Need-put-octets-requires
 put-octets-requires c κs = search needs
-
-enum-told : tie.Need-enum-told
-enum-told c = search needs
-
-slice-aggregate-put-octets-2 : tie.Need-slice-aggregate-put-octets-2
-slice-aggregate-put-octets-2 c = search needs
-
-put-octets-requires-2 : tie.Need-put-octets-requires-2
-put-octets-requires-2 c κs = search needs
-
-enum-told-2 : tie.Need-enum-told-2
-enum-told-2 c = search needs
-
-slice-aggregate-put-octets-3 : tie.Need-slice-aggregate-put-octets-3
-slice-aggregate-put-octets-3 c = search needs
-
-put-octets-requires-3 : tie.Need-put-octets-requires-3
-put-octets-requires-3 c κs = search needs
-
-enum-told-3 : tie.Need-enum-told-3
-enum-told-3 c = search needs
-
-slice-aggregate-put-octets-4 : tie.Need-slice-aggregate-put-octets-4
-slice-aggregate-put-octets-4 c = search needs
-
-put-octets-requires-4 : tie.Need-put-octets-requires-4
-put-octets-requires-4 c κs = search needs
-
-enum-told-4 : tie.Need-enum-told-4
-enum-told-4 c = search needs
-
-slice-aggregate-put-octets-5 : tie.Need-slice-aggregate-put-octets-5
-slice-aggregate-put-octets-5 c = search needs
-
-put-octets-requires-5 : tie.Need-put-octets-requires-5
-put-octets-requires-5 c κs = search needs
 
 same-length : tie.Need-same-length
 same-length c = search needs
 
 returns : tie.Need-returns
 returns c = search needs
-
-same-length-2 : tie.Need-same-length-2
-same-length-2 c = search needs
-
-returns-2 : tie.Need-returns-2
-returns-2 c = search needs
-
-same-length-3 : tie.Need-same-length-3
-same-length-3 c = search needs
-
-returns-3 : tie.Need-returns-3
-returns-3 c = search needs
-
-same-length-4 : tie.Need-same-length-4
-same-length-4 c = search needs
-
-returns-4 : tie.Need-returns-4
-returns-4 c = search needs
-
-same-length-5 : tie.Need-same-length-5
-same-length-5 c = search needs
-
-returns-5 : tie.Need-returns-5
-returns-5 c = search needs
 
 pub written-spec : {M : Type 1} → statement M
 written-spec =
@@ -108,29 +42,9 @@ written-spec =
     slice-aggregate-write-all
     write-all-requires
     write-requires
-    enum-known-k
+    numbers-requires
     slice-reshare-prefix-put-octets
     slice-aggregate-put-octets
     put-octets-requires
-    enum-told
-    slice-aggregate-put-octets-2
-    put-octets-requires-2
-    enum-told-2
-    slice-aggregate-put-octets-3
-    put-octets-requires-3
-    enum-told-3
-    slice-aggregate-put-octets-4
-    put-octets-requires-4
-    enum-told-4
-    slice-aggregate-put-octets-5
-    put-octets-requires-5
     same-length
-    returns
-    same-length-2
-    returns-2
-    same-length-3
-    returns-3
-    same-length-4
-    returns-4
-    same-length-5
-    returns-5)
+    returns)
