@@ -13,7 +13,7 @@ use Rattle.grammar.specs.Machine.{opened}
 use Rattle.kinds.specs.declared.Span.{Span}
 use Rattle.scan_parts.specs.Stands.{Ready}
 use Rattle.scan_parts.proofs.ReadyBehindValue.{ready-after}
-use Rattle.scan_parts.proofs.PassedIsParsed.{Spans}
+use Rattle.scan_parts.proofs.PassedIsParsed.{FromTo}
 use Rattle.scanner.specs.Linked.{Chain}
 use Rattle.scanner.proofs.ReadyBehindLink.{after-close}
 use Rattle.known.specs.Known.{KnownTarget}
@@ -48,7 +48,7 @@ module _ {s L P : List ℕ} {a n m : ℕ} (b : BeforeLink s L P a n m) where
     pub link-room : n < linkRoom L
     link-room = omega (arith, part-links (b .derived) ready, b .link-room, b .link-number)
 
-    pub link-filled : {i x : ℕ} {t : Span} {L′ P′ : List ℕ} → ParamsFilled s j i m x P P′ → Spans t a c
+    pub link-filled : {i x : ℕ} {t : Span} {L′ P′ : List ℕ} → ParamsFilled s j i m x P P′ → FromTo t a c
         → L′ ≡ sets L (linkWidth * n) (t .from .0 ∷ t .to .0 ∷ m ∷ (x - m) ∷ []) → LinkFilled s a i n m x L L′ P P′
     link-filled {i} {x} f p w =
         let kept : x - m ≡ length (keepAfter s [] (reverse (f .params))) = omega (arith, f .next) in

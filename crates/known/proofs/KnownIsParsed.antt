@@ -10,7 +10,7 @@ use Rattle.cursor.specs.Passed.{Passed, Looked}
 use Rattle.scan_parts.specs.Parsed.{ParsedValue}
 use Rattle.scan_parts.proofs.ReadyBehindValue.{first-of, no-value-here, quote-starts}
 use Rattle.scan_parts.proofs.ReadyBehindParam.{no-param-here, equals-reached}
-use Rattle.scan_parts.proofs.PassedIsParsed.{Spans, token-parsed}
+use Rattle.scan_parts.proofs.PassedIsParsed.{FromTo, token-parsed}
 use Rattle.known.specs.Known.{KnownQuoted, KnownValue, KnownParam}
 use Rattle.known.proofs.DerivedGoesOn.{goes-on}
 
@@ -31,7 +31,7 @@ module _ {s : List ℕ} where
               };
         }
 
-    pub token-value : {e : ℕ} {a : Span} {b : Bool} → Looked s v 34 b → b ≡ false → Passed isToken s v e → Spans a v e
+    pub token-value : {e : ℕ} {a : Span} {b : Bool} → Looked s v 34 b → b ≡ false → Passed isToken s v e → FromTo a v e
         → ParsedValue s v (a .from .0) (a .to .0) 1 e
     token-value l f t w =
         token-parsed t

@@ -27,7 +27,7 @@ use Rattle.scan_parts.specs.Scanned.{
 }
 use Rattle.scan_parts.proofs.ReadyBehindValue.{first-of, quote-starts}
 use Rattle.scan_parts.proofs.ReadyBehindParam.{equals-reached}
-use Rattle.scan_parts.proofs.PassedIsParsed.{Spans, quoted-parsed, valued-parsed}
+use Rattle.scan_parts.proofs.PassedIsParsed.{FromTo, quoted-parsed, valued-parsed}
 
 module _ {s : List ℕ} where
   -- ---- the inside of a quoted string
@@ -39,7 +39,7 @@ module _ {s : List ℕ} where
         go : {p : Place} → InsideScanned s j (Stuck p) → ValueScanned s name v (NoParam p)
         go (no-quote f) = no-value (λ o n e p. f o n e (suc v) (quote-starts q k o n e p))
 
-    pub quote-passed : {a : Span} {c d : Cursor} → r ≡ Past c → Spans a j (c .at .0) → d .at .0 ≡ c .at .0 + 1
+    pub quote-passed : {a : Span} {c d : Cursor} → r ≡ Past c → FromTo a j (c .at .0) → d .at .0 ≡ c .at .0 + 1
         → ValueScanned s name v (Param (record { name = name; value = a; form = 2 }) d)
     quote-passed {a} {c} {d} e w n = go (subst (InsideScanned s j) e i)
       where
@@ -55,11 +55,11 @@ module _ {s : List ℕ} where
   -- ---- a value
 
   pub value-scanned : {a e k j v : ℕ} {name : Span} {u : ParamScan} → Passed isToken s a e → (e ≡ a → ⊥) → Passed isBlank s e k
-      → Spans name a e → At s k 61 → j ≡ k + 1 → Passed isBlank s j v → ValueScanned s name v u → ParamScanned s a u
+      → FromTo name a e → At s k 61 → j ≡ k + 1 → Passed isBlank s j v → ValueScanned s name v u → ParamScanned s a u
   value-scanned {a} {e} {v = v} {name = name} t n b x q m w i = go i
     where
-      named : (r : ParamRecord) → r .name ≡ name → Spans (r .name) a e
-      named r y = subst (λ (z : Span). Spans z a e) (sym y) x
+      named : (r : ParamRecord) → r .name ≡ name → FromTo (r .name) a e
+      named r y = subst (λ (z : Span). FromTo z a e) (sym y) x
 
       go : {u : ParamScan} → ValueScanned s name v u → ParamScanned s a u
       go (no-value f) = no-param (λ o p. f o a e (equals-reached o (first-of t n) t b q m w p))

@@ -1,4 +1,4 @@
--- Where the machine of the grammar's proofs stands after part of a header.
+-- Where the grammar's machine stands after part of a header.
 use Prim.Native.Nat.{ℕ, _≤_, _<_}
 use mathlib.Core.Path.{_≡_}
 use mathlib.Core.Bool.{false}
