@@ -24,7 +24,9 @@ fn anchor_of(
 ) -> ContextAnswer
     requires { ⌜ Usable (tableOf (now text) (now links) (now params) (counts .links) (counts .params)) ⌝ }
     requires { ⌜ link .0 < counts .links ⌝ }
-    ensures { λ r. ⌜ IsContext (tableOf (now (text .entry)) (now (links .entry)) (now (params .entry)) (counts .links) (counts .params)) (link .0) r ⌝ }
+    ensures { λ r. ⌜
+        IsContext (tableOf (now (text .entry)) (now (links .entry)) (now (params .entry)) (counts .links) (counts .params))
+        (link .0) r ⌝ }
 {
     let l = records::link_at(links, link);
     let anchor = named::first_of(text, params, l, names::ANCHOR);
@@ -45,7 +47,9 @@ fn context_of(
     counts: Counts,
     link: LinkNumber,
 ) -> ContextAnswer
-    ensures { λ r. ⌜ IsContext (tableOf (now (text .entry)) (now (links .entry)) (now (params .entry)) (counts .links) (counts .params)) (link .0) r ⌝ }
+    ensures { λ r. ⌜
+        IsContext (tableOf (now (text .entry)) (now (links .entry)) (now (params .entry)) (counts .links) (counts .params))
+        (link .0) r ⌝ }
 {
     let state = table_check::state_of(text, links, params, counts);
     match state {
@@ -69,7 +73,9 @@ pub fn context<'a>(
     counts: Counts,
     link: LinkNumber,
 ) -> &'a [u8]
-    ensures { λ r. ⌜ HandsBack (tableOf (now (text .entry)) (now (links .entry)) (now (params .entry)) (counts .links) (counts .params)) (link .0) (text .entry) (base .entry) r ⌝ }
+    ensures { λ r. ⌜
+        HandsBack (tableOf (now (text .entry)) (now (links .entry)) (now (params .entry)) (counts .links) (counts .params))
+        (link .0) (text .entry) (base .entry) r ⌝ }
 {
     let answer = context_of(text, links, params, counts, link);
     match answer {
@@ -92,7 +98,9 @@ pub fn context_number<'a>(
     counts: Counts,
     link: LinkNumber,
 ) -> ContextAnswer
-    ensures { λ r. ⌜ Context (tableOf (now (text .entry)) (now (links .entry)) (now (params .entry)) (counts .links) (counts .params)) (now (base .entry)) (link .0) (contextOut (length (now (base .entry))) r) ⌝ }
+    ensures { λ r. ⌜
+        Context (tableOf (now (text .entry)) (now (links .entry)) (now (params .entry)) (counts .links) (counts .params))
+        (now (base .entry)) (link .0) (contextOut (length (now (base .entry))) r) ⌝ }
 {
     context_of(text, links, params, counts, link)
 }

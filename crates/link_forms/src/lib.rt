@@ -53,7 +53,8 @@ pub fn put_links(
     out: &mut [u8],
 ) -> OutPlace
     requires { ⌜ Usable (tableOf (now text) (now links) (now params) (counts .links) (counts .params)) ⌝ }
-    requires { ⌜ length (writtenForm (tableOf (now text) (now links) (now params) (counts .links) (counts .params))) ≤ length (now out) ⌝ }
+    requires { ⌜
+        length (writtenForm (tableOf (now text) (now links) (now params) (counts .links) (counts .params))) ≤ length (now out) ⌝ }
     ensures { λ r. ⌜ Put (now (out .entry)) (now (out .exit)) 0 (r .0)
         (writtenForm (tableOf (now (text .entry)) (now (links .entry)) (now (params .entry)) (counts .links) (counts .params))) ⌝ }
 {

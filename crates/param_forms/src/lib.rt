@@ -36,7 +36,8 @@ fn put_in_quotes(s: &[u8], part: Span, out: &mut [u8], at: OutPlace) -> OutPlace
 fn put_value(text: &[u8], p: ParamRecord, out: &mut [u8], at: OutPlace) -> OutPlace
     requires { ⌜ GoodParam (now text) (toParam p) ⌝ }
     requires { ⌜ at .0 + length (writtenValue (valueOf (now text) (toParam p))) ≤ length (now out) ⌝ }
-    ensures { λ r. ⌜ Put (now (out .entry)) (now (out .exit)) (at .0) (r .0) (writtenValue (valueOf (now (text .entry)) (toParam p))) ⌝ }
+    ensures { λ r. ⌜
+        Put (now (out .entry)) (now (out .exit)) (at .0) (r .0) (writtenValue (valueOf (now (text .entry)) (toParam p))) ⌝ }
 {
     if is_bare(text, p) {
         return copy_meaning(text, p.value, out, at);

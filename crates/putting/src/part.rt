@@ -43,7 +43,8 @@ fn put_spelt(s: &[u8], part: Span, folding: bool, out: &mut [u8], at: OutPlace) 
 pub fn put_part(s: &[u8], part: Span, out: &mut [u8], at: OutPlace) -> OutPlace
     requires { ⌜ InText (now s) (part .from .0) (part .to .0) ⌝ }
     requires { ⌜ at .0 + length (slice (part .from .0) (part .to .0) (now s)) ≤ length (now out) ⌝ }
-    ensures { λ r. ⌜ Put (now (out .entry)) (now (out .exit)) (at .0) (r .0) (slice (part .from .0) (part .to .0) (now (s .entry))) ⌝ }
+    ensures { λ r. ⌜
+        Put (now (out .entry)) (now (out .exit)) (at .0) (r .0) (slice (part .from .0) (part .to .0) (now (s .entry))) ⌝ }
 {
     put_spelt(s, part, false, out, at)
 }

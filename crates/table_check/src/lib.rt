@@ -15,7 +15,8 @@ pub enum TableState {
 
 // A text that is too long is refused first, and then a table that isn't good.
 pub fn state_of(text: &[u8], links: &[usize], params: &[usize], counts: Counts) -> TableState
-    ensures { λ r. ⌜ IsState (tableOf (now (text .entry)) (now (links .entry)) (now (params .entry)) (counts .links) (counts .params)) r ⌝ }
+    ensures { λ r. ⌜
+        IsState (tableOf (now (text .entry)) (now (links .entry)) (now (params .entry)) (counts .links) (counts .params)) r ⌝ }
 {
     if text.len() > LIMIT {
         return TableState::Refused(Refusal::TooLong);

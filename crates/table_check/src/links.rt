@@ -33,7 +33,9 @@ fn is_good_link(s: &[u8], params: &[usize], l: LinkRecord) -> bool
 // Whether the counts fit the rooms, each link's parameters begin where the former's end, the last link's end at the parameter
 // count, and each link is good.
 pub fn is_good(text: &[u8], links: &[usize], params: &[usize], counts: Counts) -> bool
-    ensures { λ r. ⌜ Decides r (Good (tableOf (now (text .entry)) (now (links .entry)) (now (params .entry)) (counts .links) (counts .params))) ⌝ }
+    ensures { λ r. ⌜
+        Decides r
+        (Good (tableOf (now (text .entry)) (now (links .entry)) (now (params .entry)) (counts .links) (counts .params))) ⌝ }
 {
     if counts.links > link_room(links) || counts.params > param_room(params) {
         return false;

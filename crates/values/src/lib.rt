@@ -40,8 +40,11 @@ pub fn meaning_len(s: &[u8], part: Span) -> usize
 
 // Writes what the part means into out from place `at` on, and answers the place behind it.
 pub fn copy_meaning(s: &[u8], part: Span, out: &mut [u8], at: OutPlace) -> OutPlace
-    requires { ⌜ InText (now s) (part .from .0) (part .to .0) × (at .0 + length (rest (now s) (part .to .0) (part .from .0)) ≤ length (now out)) ⌝ }
-    ensures { λ r. ⌜ Put (now (out .entry)) (now (out .exit)) (at .0) (r .0) (rest (now (s .entry)) (part .to .0) (part .from .0)) ⌝ }
+    requires { ⌜
+        InText (now s) (part .from .0) (part .to .0)
+        × (at .0 + length (rest (now s) (part .to .0) (part .from .0)) ≤ length (now out)) ⌝ }
+    ensures { λ r. ⌜
+        Put (now (out .entry)) (now (out .exit)) (at .0) (r .0) (rest (now (s .entry)) (part .to .0) (part .from .0)) ⌝ }
 {
     let e = part.to;
     let mut to = at;

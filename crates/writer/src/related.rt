@@ -31,7 +31,8 @@ fn is_related(text: &[u8], params: &[usize], l: LinkRecord) -> bool
 // Whether every link has a relation.
 pub fn all_related(text: &[u8], links: &[usize], params: &[usize], counts: Counts) -> bool
     requires { ⌜ Usable (tableOf (now text) (now links) (now params) (counts .links) (counts .params)) ⌝ }
-    ensures { λ r. ⌜ TellsRelated (tableOf (now (text .entry)) (now (links .entry)) (now (params .entry)) (counts .links) (counts .params)) r ⌝ }
+    ensures { λ r. ⌜
+        TellsRelated (tableOf (now (text .entry)) (now (links .entry)) (now (params .entry)) (counts .links) (counts .params)) r ⌝ }
 {
     let mut i = LinkNumber::first();
     while i.0 < counts.links {
