@@ -5,9 +5,9 @@ use lib.Dec.{eqb}
 use Rattle.outcomes.specs.Number.{done}
 use Rattle.outcomes.specs.Context.{Source, of-text, of-base, ContextOut, nothing}
 use Rattle.answers.specs.Refusal.{refusalNumber}
-use Rattle.answers.specs.declared.context.ContextAnswer.{ContextAnswer}
-use Rattle.answers.specs.declared.context.ContextAnswer.the-variants.{Anchored, Base, Refused}
-use Rattle.answers.specs.declared.context.ContextNumbers.{ContextNumbers}
+use Rattle.answers.specs.declared.context_answer.ContextAnswer.{ContextAnswer}
+use Rattle.answers.specs.declared.context_answer.ContextAnswer.the-variants.{Anchored, Base, Refused}
+use Rattle.answers.specs.declared.context_answer.ContextNumbers.{ContextNumbers}
 
 -- the outcome that the answer tells, with the length of the caller's base
 abbrev pub contextOut : ℕ → ContextAnswer → ContextOut

@@ -4,9 +4,9 @@ use mathlib.Core.List.{List}
 use Rattle.outcomes.specs.Number.{done}
 use Rattle.outcomes.specs.Copy.{CopyOut}
 use Rattle.answers.specs.Refusal.{refusalNumber}
-use Rattle.answers.specs.declared.length.LengthAnswer.{LengthAnswer}
-use Rattle.answers.specs.declared.length.LengthAnswer.the-variants.{Wrote, Refused}
-use Rattle.answers.specs.declared.length.LengthNumbers.{LengthNumbers}
+use Rattle.answers.specs.declared.length_answer.LengthAnswer.{LengthAnswer}
+use Rattle.answers.specs.declared.length_answer.LengthAnswer.the-variants.{Wrote, Refused}
+use Rattle.answers.specs.declared.length_answer.LengthNumbers.{LengthNumbers}
 
 abbrev pub lengthNumbers : LengthAnswer → LengthNumbers
 lengthNumbers (Wrote n) = record { number = done; length = n }

@@ -4,9 +4,9 @@ use mathlib.Core.List.{List}
 use Rattle.outcomes.specs.Number.{done, malformedHeader}
 use Rattle.outcomes.specs.Read.{ReadOut}
 use Rattle.answers.specs.Refusal.{refusalNumber}
-use Rattle.answers.specs.declared.read.ReadAnswer.{ReadAnswer}
-use Rattle.answers.specs.declared.read.ReadAnswer.the-variants.{Done, Malformed, Refused}
-use Rattle.answers.specs.declared.read.ReadNumbers.{ReadNumbers}
+use Rattle.answers.specs.declared.read_answer.ReadAnswer.{ReadAnswer}
+use Rattle.answers.specs.declared.read_answer.ReadAnswer.the-variants.{Done, Malformed, Refused}
+use Rattle.answers.specs.declared.read_answer.ReadNumbers.{ReadNumbers}
 
 abbrev pub readNumbers : ReadAnswer → ReadNumbers
 readNumbers (Done n) = record { number = done; place = 0; links = n .links; params = n .params }

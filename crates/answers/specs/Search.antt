@@ -2,9 +2,9 @@
 use Rattle.outcomes.specs.Number.{done}
 use Rattle.outcomes.specs.Search.{SearchOut}
 use Rattle.answers.specs.Refusal.{refusalNumber}
-use Rattle.answers.specs.declared.search.SearchAnswer.{SearchAnswer}
-use Rattle.answers.specs.declared.search.SearchAnswer.the-variants.{Found, Refused}
-use Rattle.answers.specs.declared.search.SearchNumbers.{SearchNumbers}
+use Rattle.answers.specs.declared.search_answer.SearchAnswer.{SearchAnswer}
+use Rattle.answers.specs.declared.search_answer.SearchAnswer.the-variants.{Found, Refused}
+use Rattle.answers.specs.declared.search_answer.SearchNumbers.{SearchNumbers}
 
 abbrev pub searchNumbers : SearchAnswer → SearchNumbers
 searchNumbers (Found n) = record { number = done; link = n .0 }

@@ -3,10 +3,10 @@
 ghost use mathlib.Core.Path.{_≡_};
 ghost use Rattle.answers.specs.Refusal.{refusalNumber};
 
-pub mod context;
-pub mod length;
-pub mod read;
-pub mod search;
+pub mod context_answer;
+pub mod length_answer;
+pub mod read_answer;
+pub mod search_answer;
 
 // The most octets of a header, a text or a written form.
 pub const LIMIT: usize = 8192;

@@ -10,7 +10,7 @@ use Rattle.outcomes.specs.Context.{ContextOut, Context, refused, no-such-link, 
 use Rattle.tables.proofs.InGood.{good-link}
 use Rattle.named.proofs.ByName.{by-anchor, coded-each}
 use Rattle.answers.specs.Context.{contextNumbers}
-use Rattle.answers.specs.declared.context.ContextNumbers.{ContextNumbers}
+use Rattle.answers.specs.declared.context_answer.ContextNumbers.{ContextNumbers}
 use Rattle.capi.specs.Part.{sourceOctets, IsContext}
 
 pub within : (t : Table) (base : List ℕ) (i : ℕ) {o : ContextOut} → Context t base i o

@@ -8,7 +8,7 @@ use Rattle.tables.specs.Table.{Table}
 use Rattle.tables.specs.Good.{InText}
 use Rattle.outcomes.specs.Context.{ContextOut, Context}
 use Rattle.answers.specs.Context.{contextNumbers}
-use Rattle.answers.specs.declared.context.ContextNumbers.{ContextNumbers}
+use Rattle.answers.specs.declared.context_answer.ContextNumbers.{ContextNumbers}
 
 -- what the number of a source stands for; a refusal's part is the base's first zero octets
 abbrev pub sourceOctets : List ℕ → List ℕ → ℕ → List ℕ

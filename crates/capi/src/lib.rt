@@ -10,10 +10,10 @@ ghost use Rattle.outcomes.specs.Read.{Read};
 ghost use Rattle.outcomes.specs.Search.{Search};
 ghost use Rattle.outcomes.specs.Write.{Write};
 ghost use Rattle.tables.specs.Table.{tableOf};
-use answers::context::ContextNumbers;
-use answers::length::LengthNumbers;
-use answers::read::ReadNumbers;
-use answers::search::SearchNumbers;
+use answers::context_answer::ContextNumbers;
+use answers::length_answer::LengthNumbers;
+use answers::read_answer::ReadNumbers;
+use answers::search_answer::SearchNumbers;
 use kinds::Counts;
 use kinds::LinkNumber;
 

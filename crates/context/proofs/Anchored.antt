@@ -17,8 +17,8 @@ use Rattle.tables.specs.Relation.{named}
 use Rattle.outcomes.specs.Usable.{Usable}
 use Rattle.outcomes.specs.Context.{contextOctets, anchor, Context, anchored, unanchored}
 use Rattle.answers.specs.Context.{contextOut}
-use Rattle.answers.specs.declared.context.ContextAnswer.{ContextAnswer}
-use Rattle.answers.specs.declared.context.ContextAnswer.the-variants.{Anchored, Base}
+use Rattle.answers.specs.declared.context_answer.ContextAnswer.{ContextAnswer}
+use Rattle.answers.specs.declared.context_answer.ContextAnswer.the-variants.{Anchored, Base}
 use Rattle.named.specs.First.{Listed, FirstNamed, found}
 use Rattle.named.specs.declared.Named.{Named}
 use Rattle.named.specs.declared.Named.the-variants.{Found, Absent}

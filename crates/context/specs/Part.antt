@@ -8,8 +8,8 @@ use Rattle.tables.specs.Table.{Table}
 use Rattle.tables.specs.Good.{InText}
 use Rattle.outcomes.specs.Context.{Context, ContextOut, of-text, of-base, contextOctets}
 use Rattle.answers.specs.Context.{contextOut}
-use Rattle.answers.specs.declared.context.ContextAnswer.{ContextAnswer}
-use Rattle.answers.specs.declared.context.ContextAnswer.the-variants.{Anchored, Base, Refused}
+use Rattle.answers.specs.declared.context_answer.ContextAnswer.{ContextAnswer}
+use Rattle.answers.specs.declared.context_answer.ContextAnswer.the-variants.{Anchored, Base, Refused}
 
 -- a part of the text lies in it
 abbrev pub Within : List ℕ → ContextAnswer → Type 0

@@ -8,7 +8,7 @@ ghost use Rattle.outcomes.specs.Context.{Context};
 ghost use Rattle.answers.specs.Context.{contextOut};
 ghost use Rattle.context.specs.Part.{IsContext, HandsBack};
 use answers::Refusal;
-use answers::context::ContextAnswer;
+use answers::context_answer::ContextAnswer;
 use kinds::Counts;
 use kinds::LinkNumber;
 use named::Named;

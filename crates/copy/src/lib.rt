@@ -4,7 +4,7 @@ ghost use Rattle.outcomes.specs.Usable.{Usable};
 ghost use Rattle.outcomes.specs.Copy.{Copy};
 ghost use Rattle.answers.specs.Length.{lengthNumbers, lengthOut};
 use answers::Refusal;
-use answers::length::LengthAnswer;
+use answers::length_answer::LengthAnswer;
 use kinds::Counts;
 use kinds::LinkNumber;
 use kinds::OutPlace;

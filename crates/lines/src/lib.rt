@@ -3,7 +3,7 @@ ghost use Rattle.columns.specs.LineHolds.{LineHolds};
 ghost use Rattle.records.specs.Slots.{linkNumbers, paramNumbers};
 ghost use Rattle.lines.specs.FinalLf.{IsTrimmed};
 ghost use Rattle.lines.specs.Line.{countsLine, linkLine, paramLine, refusalLine};
-use answers::read::ReadNumbers;
+use answers::read_answer::ReadNumbers;
 use columns::Line;
 use columns::line_of;
 use kinds::Counts;

@@ -14,8 +14,8 @@ use Rattle.records.specs.Slots.{IsLink}
 use Rattle.outcomes.specs.Read.{ReadOut, Read, too-long, not-derived, no-link-room, no-param-room, reads}
 use Rattle.kinds.specs.declared.Counts.{Counts}
 use Rattle.answers.specs.Read.{readNumbers, readOut}
-use Rattle.answers.specs.declared.read.ReadAnswer.{ReadAnswer}
-use Rattle.answers.specs.declared.read.ReadAnswer.the-variants.{Done}
+use Rattle.answers.specs.declared.read_answer.ReadAnswer.{ReadAnswer}
+use Rattle.answers.specs.declared.read_answer.ReadAnswer.the-variants.{Done}
 use Rattle.listing.specs.Held.{Held}
 
 -- what is left of a table from link i on: `left` links, whose parameters begin at number `from`

@@ -7,7 +7,7 @@ ghost use Rattle.io.specs.Counts.{Counts as Within};
 ghost use Rattle.outcomes.specs.Read.{Read};
 ghost use Rattle.answers.specs.Read.{readNumbers, readOut};
 ghost use Rattle.listing.specs.Held.{Held};
-use answers::read::ReadAnswer;
+use answers::read_answer::ReadAnswer;
 use columns::Line;
 use kinds::Counts;
 use kinds::LinkNumber;

@@ -13,8 +13,8 @@ use Rattle.outcomes.specs.Read.{Read, ReadOut, not-derived, no-link-room, no-pa
 use Rattle.kinds.specs.declared.Counts.{Counts}
 use Rattle.kinds.specs.declared.Place.{Place}
 use Rattle.answers.specs.declared.Refusal.the-variants.{NoLinkRoom, NoParamRoom}
-use Rattle.answers.specs.declared.read.ReadAnswer.{ReadAnswer}
-use Rattle.answers.specs.declared.read.ReadAnswer.the-variants.{Done, Malformed as IsMalformed, Refused}
+use Rattle.answers.specs.declared.read_answer.ReadAnswer.{ReadAnswer}
+use Rattle.answers.specs.declared.read_answer.ReadAnswer.the-variants.{Done, Malformed as IsMalformed, Refused}
 use Rattle.answers.specs.Read.{readNumbers, readOut}
 use Rattle.scanner.specs.declared.HeaderScan.{HeaderScan}
 use Rattle.scanner.specs.declared.HeaderScan.the-variants.{Malformed, Counted}

@@ -4,7 +4,7 @@ ghost use Rattle.outcomes.specs.Read.{Read};
 ghost use Rattle.answers.specs.Read.{readNumbers, readOut};
 use answers::LIMIT;
 use answers::Refusal;
-use answers::read::ReadAnswer;
+use answers::read_answer::ReadAnswer;
 use scanner::HeaderScan;
 
 pub fn read(header: &[u8], links: &mut [usize], params: &mut [usize]) -> ReadAnswer

@@ -4,7 +4,7 @@ ghost use Rattle.outcomes.specs.Usable.{Usable};
 ghost use Rattle.outcomes.specs.Search.{Search};
 ghost use Rattle.answers.specs.Search.{searchNumbers, searchOut};
 use answers::Refusal;
-use answers::search::SearchAnswer;
+use answers::search_answer::SearchAnswer;
 use kinds::Counts;
 use kinds::LinkNumber;
 use runs::match_run;

@@ -6,7 +6,7 @@ ghost use Rattle.outcomes.specs.Write.{Write};
 ghost use Rattle.tables.specs.Table.{tableOf};
 use answers::LIMIT;
 use answers::Refusal;
-use answers::length::LengthAnswer;
+use answers::length_answer::LengthAnswer;
 use kinds::Counts;
 use link_forms::put_links;
 use measuring::form_len;

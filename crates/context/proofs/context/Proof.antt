@@ -5,7 +5,7 @@ use lib.ListN.{length}
 use lib.Seq.{take-length}
 use borrow.Author.Needs.{needs}
 use Rattle.answers.specs.Context.{contextOut}
-use Rattle.answers.specs.declared.context.ContextAnswer.the-variants.{Anchored}
+use Rattle.answers.specs.declared.context_answer.ContextAnswer.the-variants.{Anchored}
 use Rattle.context.proofs.Anchored.{within, told-outcome, hands, text-part, in-text, at-base}
 use Rattle.context.proofs.context.Statement.{statement}
 use Rattle.context.proofs.context.Tie as tie

@@ -2,8 +2,8 @@
 use mathlib.Core.Path.{refl}
 use Rattle.answers.proofs.Refusals.{no-refusal-is-done}
 use borrow.Author.Needs.{needs}
-use Rattle.answers.proofs.context.ContextAnswer.numbers.Statement.{statement}
-use Rattle.answers.proofs.context.ContextAnswer.numbers.Tie as tie
+use Rattle.answers.proofs.context_answer.ContextAnswer.numbers.Statement.{statement}
+use Rattle.answers.proofs.context_answer.ContextAnswer.numbers.Tie as tie
 
 enum-known-self : tie.Need-enum-known-self
 enum-known-self c = search needs

@@ -1,8 +1,8 @@
 -- Each case of the answer has its numbers.
 use mathlib.Core.Path.{refl}
 use borrow.Author.Needs.{needs}
-use Rattle.answers.proofs.read.ReadAnswer.numbers.Statement.{statement}
-use Rattle.answers.proofs.read.ReadAnswer.numbers.Tie as tie
+use Rattle.answers.proofs.read_answer.ReadAnswer.numbers.Statement.{statement}
+use Rattle.answers.proofs.read_answer.ReadAnswer.numbers.Tie as tie
 
 enum-known-self : tie.Need-enum-known-self
 enum-known-self c = search needs

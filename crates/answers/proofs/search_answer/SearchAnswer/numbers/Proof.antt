@@ -1,8 +1,8 @@
 -- Each case of the answer has its numbers.
 use mathlib.Core.Path.{refl}
 use borrow.Author.Needs.{needs}
-use Rattle.answers.proofs.length.LengthAnswer.numbers.Statement.{statement}
-use Rattle.answers.proofs.length.LengthAnswer.numbers.Tie as tie
+use Rattle.answers.proofs.search_answer.SearchAnswer.numbers.Statement.{statement}
+use Rattle.answers.proofs.search_answer.SearchAnswer.numbers.Tie as tie
 
 enum-known-self : tie.Need-enum-known-self
 enum-known-self c = search needs
