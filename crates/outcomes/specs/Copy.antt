@@ -21,11 +21,11 @@ untouched out n = record { number = n; count = 0; buffer = out }
 abbrev pub holding : List ℕ → List ℕ → CopyOut
 holding out v = record { number = done; count = length v; buffer = v ++ drop (length v) out }
 
--- the meaning of the value of the parameter at place j within link number i
+-- the meaning of the value of the parameter at index j within link number i
 abbrev pub meant : Table → ℕ → ℕ → List ℕ
 meant t i j = valueOf (t .text) (paramAt (t .paramSlots) (firstOf (t .linkSlots) i + j))
 
--- the table t, link number i, place j within that link, and a buffer that holds `out`
+-- the table t, link number i, index j within that link, and a buffer that holds `out`
 module _ (t : Table) (i j : ℕ) (out : List ℕ) where
   pub data Copy : CopyOut → Type 0 where
     refused : {n : ℕ} → Refused t n → Copy (untouched out n)
