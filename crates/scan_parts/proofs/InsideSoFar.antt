@@ -6,21 +6,17 @@ use mathlib.Core.Path.{_≡_, refl, sym, ap, subst, _∙_}
 use mathlib.Core.Bool.{Bool, true, false, not}
 use mathlib.Core.List.{List}
 use lib.ListN.{length, getD}
-use borrow.Author.Tests.{not-true}
+use borrow.Author.Tests.{not-true, not-false}
 use Rattle.octets.specs.Sets.{isPlain, isEscapable}
 use Rattle.grammar.specs.Grammar.{rfc8288, At, In, Run, run-end, run-more, Inside, inside-end, plain, pair}
 use Rattle.grammar.proofs.Classes.{plain-not-quote, plain-not-backslash}
 use Rattle.grammar.specs.Machine.{quote, escape, Open}
 use Rattle.cursor.specs.Passed.{Passed, Looked}
-use Rattle.cursor.specs.declared.Cursor.{Cursor}
-use Rattle.scan_parts.specs.declared.Scan.{Scan}
-use Rattle.scan_parts.specs.declared.Scan.the-variants.{Stuck, Past}
-use Rattle.kinds.specs.declared.Place.{Place}
+use Rattle.scan_parts.specs.declared.Scan.the-variants.{Stuck}
 use Rattle.grammar.specs.Place.{MalformedAt}
 use Rattle.scan_parts.specs.Stands.{Stands}
-use Rattle.scan_parts.specs.Scanned.{OneScanned, none-there, InsideScanned, no-quote}
+use Rattle.scan_parts.specs.Scanned.{LookedIn, InsideScanned, no-quote}
 use Rattle.scan_parts.proofs.Standing.{stands-on, halts}
-use Rattle.scan_parts.proofs.OneOctet.{passed-one}
 
 -- how far the inside has been passed, from place a: to i, where no plain octet stands
 pub record InsideSoFar (s : List ℕ) (a i : ℕ) : Type 0 where
@@ -62,33 +58,28 @@ module _ {s : List ℕ} where
       }
 
   -- a pair, and a run behind it
-  module _ {a i j : ℕ} {r : Scan} (g : InsideSoFar s a i) (q : At s i 92) (k : j ≡ i + 1) (u : OneScanned isEscapable s j r) where
-    pub more : {e : ℕ} {d : Cursor} → r ≡ Past d → Passed isPlain s (d .at .0) e → InsideSoFar s a e
-    more {e} w p =
+  module _ {a i j : ℕ} {r : Bool} (g : InsideSoFar s a i) (q : At s i 92) (k : j ≡ i + 1) (u : LookedIn isEscapable s j r) where
+    pub more : {m e : ℕ} → not r ≡ false → m ≡ j + 1 → Passed isPlain s m e → InsideSoFar s a e
+    more {m} {e} w z p =
         let n : j ≡ suc i = k ∙ add-one i in
-        let t = passed-one u w in
         record {
           derived =
               inside-append (g .derived)
-              (pair q (subst (In s isEscapable) n (t .1))
-              (subst (λ (x : ℕ). Inside s x e) (t .0 ∙ ap suc n) (run-inside (p .run))));
-          forward = omega (arith, g .forward, p .forward, t .0);
+              (pair q (subst (In s isEscapable) n (u .yes (not-false r w)))
+              (subst (λ (x : ℕ). Inside s x e) (z ∙ add-one j ∙ ap suc n) (run-inside (p .run))));
+          forward = omega (arith, g .forward, p .forward, z, k);
           inside = p .inside;
           stops = p .stops;
         }
 
-    pub no-pair : {p : Place} → r ≡ Stuck p → InsideScanned s a (Stuck p)
-    no-pair e = go (subst (OneScanned isEscapable s j) e u)
-      where
-        go : {p : Place} → OneScanned isEscapable s j (Stuck p) → InsideScanned s a (Stuck p)
-        go (none-there z w) =
-            no-quote
-            (λ o n e v p.
-            subst (MalformedAt rfc8288 s) (sym z)
-            (halts
-            (subst (Stands s (escape o n e v)) (sym (k ∙ add-one i))
-            (stands-on (escape o n e v) (inside-stands o n e v (g .derived) p) (q .inside) (rw (q .is)))) refl refl
-            (λ h. rw (w h))))
+    pub no-pair : not r ≡ true → InsideScanned s a (Stuck (record { 0 = j }))
+    no-pair w =
+        no-quote
+        (λ o n e v p.
+        halts
+        (subst (Stands s (escape o n e v)) (sym (k ∙ add-one i))
+        (stands-on (escape o n e v) (inside-stands o n e v (g .derived) p) (q .inside) (rw (q .is)))) refl refl
+        (λ h. rw (u .not (not-true r w) h)))
 
   pub no-octet : {a i : ℕ} {x y : Bool} → InsideSoFar s a i → Looked s i 34 x → x ≡ false → Looked s i 92 y → not y ≡ true
       → InsideScanned s a (Stuck (record { 0 = i }))

@@ -2,20 +2,19 @@
 ghost use Prim.Native.Nat.{_≤_};
 ghost use lib.ListN.{length};
 ghost use Rattle.octets.specs.Sets.{isEscapable};
-ghost use Rattle.scan_parts.specs.Scanned.{OneScanned, InsideScanned};
+ghost use Rattle.scan_parts.specs.Scanned.{LookedIn, InsideScanned};
 use crate::Scan;
 use cursor::Cursor;
 
-// One octet that may follow a backslash.
-fn past_escapable(s: &[u8], c: Cursor) -> Scan
-    ensures { λ r. ⌜ OneScanned isEscapable (now (s .entry)) (c .at .0) r ⌝ }
+// Whether an octet stands here that may follow a backslash.
+fn sees_escapable(s: &[u8], c: Cursor) -> bool
+    ensures { λ r. ⌜ LookedIn isEscapable (now (s .entry)) (c .at .0) r ⌝ }
 {
-    let at = c.at;
-    let i = at.0;
-    if i < s.len() && octets::sets::is_escapable(s[i]) {
-        return Scan::Past(c.past_octet(s));
+    let i = c.at.0;
+    if i < s.len() {
+        return octets::sets::is_escapable(s[i]);
     }
-    Scan::Stuck(at)
+    false
 }
 
 pub fn past_inside(s: &[u8], from: Cursor) -> Scan
@@ -31,13 +30,11 @@ pub fn past_inside(s: &[u8], from: Cursor) -> Scan
             let at = c.at;
             return Scan::Stuck(at);
         }
-        match past_escapable(s, c.past_octet(s)) {
-            Scan::Stuck(p) => {
-                return Scan::Stuck(p);
-            }
-            Scan::Past(d) => {
-                c = d.past_plain(s);
-            }
+        let d = c.past_octet(s);
+        if !sees_escapable(s, d) {
+            let at = d.at;
+            return Scan::Stuck(at);
         }
+        c = d.past_octet(s).past_plain(s);
     }
 }

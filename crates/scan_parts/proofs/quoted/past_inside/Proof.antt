@@ -2,11 +2,10 @@
 use Prim.Native.Nat.{_-_}
 use native.Mathlib.Omega.{arith}
 use lib.ListN.{length}
+use borrow.Author.Needs.{needs}
 use borrow.Author.Tests.{not-false}
 use Rattle.scan_parts.specs.Scanned.{unquoted}
-use Rattle.scan_parts.proofs.OneOctet.{passed-one}
 use Rattle.scan_parts.proofs.InsideSoFar.{InsideSoFar, begin, since, more, no-octet, no-pair}
-use borrow.Author.Needs.{needs}
 use Rattle.scan_parts.proofs.quoted.past_inside.Statement.{statement}
 use Rattle.scan_parts.proofs.quoted.past_inside.Tie as tie
 
@@ -44,53 +43,35 @@ returns-2 c =
 past-octet-requires : tie.Need-past-octet-requires Inv-loop μ-loop
 past-octet-requires c κs = ((c .before .sees2 .ensures .yes) (not-false (c .before .sees2 .result) (c .if2 .left))) .inside
 
-past-escapable-requires : tie.Need-past-escapable-requires Inv-loop μ-loop
-past-escapable-requires c κs = search needs
-
-enum-known-p : tie.Need-enum-known-p Inv-loop μ-loop
-enum-known-p c = search needs
+sees-escapable-requires : tie.Need-sees-escapable-requires Inv-loop μ-loop
+sees-escapable-requires c κs = search needs
 
 returns-3 : tie.Need-returns-3 Inv-loop μ-loop
 returns-3 c =
-    let b1 = c .before .before .before in
-    let b2 = b1 .before .before .before in
-    let b3 = b2 .before .before .before in
-    no-pair (since (b3 .before .past-plain .ensures) (b3 .loop .inv))
-    ((b2 .sees2 .ensures .yes) (not-false (b2 .sees2 .result) (b1 .before .before .if2 .left))) (b1 .before .past-octet .ensures)
-    (b1 .past-escapable .ensures) (c .before .p .given .1)
+    no-pair (since (c .before .before .before .before .before .before .before .before .before .past-plain .ensures) (c .before .before .before .before .before .before .before .before .loop .inv)) ((c .before .before .before .before .before .sees2 .ensures .yes) (not-false (c .before .before .before .before .before .sees2 .result) (c .before .before .before .before .if2 .left))) (c .before .before .before .past-octet .ensures)
+    (c .before .before .sees-escapable .ensures) (c .before .if3 .taken)
 
-enum-known-d : tie.Need-enum-known-d Inv-loop μ-loop
-enum-known-d c = search needs
+past-octet-requires-2 : tie.Need-past-octet-requires-2 Inv-loop μ-loop
+past-octet-requires-2 c κs = (c .before .sees-escapable .ensures .yes) (not-false (c .before .sees-escapable .result) (c .if3 .left)) .inside
 
 past-plain-requires-2 : tie.Need-past-plain-requires-2 Inv-loop μ-loop
-past-plain-requires-2 c κs =
-    let b1 = c .before .before .before in
-    omega (
-      arith,
-      passed-one (b1 .past-escapable .ensures) (c .before .d .given .1) .0,
-      passed-one (b1 .past-escapable .ensures) (c .before .d .given .1) .1 .inside,
-    )
+past-plain-requires-2 c κs = omega (arith, c .past-octet2 .ensures, (c .before .before .sees-escapable .ensures .yes) (not-false (c .before .before .sees-escapable .result) (c .before .if3 .left)) .inside)
 
 loop-less : tie.Need-loop-less Inv-loop μ-loop
 loop-less c =
-    let b1 = c .before .before .before .before in
-    let b2 = b1 .before .before .before in
     omega (
       arith,
-      passed-one (b1 .past-escapable .ensures) (c .before .before .d .given .1) .0,
-      b1 .before .past-octet .ensures,
+      c .before .past-octet2 .ensures,
+      c .before .before .before .before .past-octet .ensures,
       c .past-plain2 .ensures .forward,
       c .past-plain2 .ensures .inside,
-      ((b2 .sees2 .ensures .yes) (not-false (b2 .sees2 .result) (b1 .before .before .if2 .left))) .inside,
+      ((c .before .before .before .before .before .before .sees2 .ensures .yes) (not-false (c .before .before .before .before .before .before .sees2 .result) (c .before .before .before .before .before .if2 .left))) .inside,
     )
 
 loop-again : tie.Need-loop-again Inv-loop μ-loop
 loop-again c =
-    let b1 = c .before .before .before .before in
-    let b2 = b1 .before .before .before in
-    let b3 = b2 .before .before .before in
-    more (b3 .loop .inv) ((b2 .sees2 .ensures .yes) (not-false (b2 .sees2 .result) (b1 .before .before .if2 .left)))
-    (b1 .before .past-octet .ensures) (b1 .past-escapable .ensures) (c .before .before .d .given .1) (c .past-plain2 .ensures)
+    more (c .before .before .before .before .before .before .before .before .before .loop .inv) ((c .before .before .before .before .before .before .sees2 .ensures .yes) (not-false (c .before .before .before .before .before .before .sees2 .result) (c .before .before .before .before .before .if2 .left))) (c .before .before .before .before .past-octet .ensures) (c .before .before .before .sees-escapable .ensures)
+    (c .before .before .if3 .left) (c .before .past-octet2 .ensures) (c .past-plain2 .ensures)
 
 pub past-inside-spec : {M : Type 1} → statement M
 past-inside-spec =
@@ -105,10 +86,9 @@ past-inside-spec =
     sees-requires-2
     returns-2
     past-octet-requires
-    past-escapable-requires
-    enum-known-p
+    sees-escapable-requires
     returns-3
-    enum-known-d
+    past-octet-requires-2
     past-plain-requires-2
     loop-less
     loop-again)
