@@ -12,10 +12,10 @@ pub mod search_answer;
 pub const LIMIT: usize = 8192;
 
 // The number of an answer that refuses nothing.
-pub const DONE: usize = 0;
+const DONE: usize = 0;
 
 // The number of a malformed header, whose answer tells a place too.
-pub const MALFORMED: usize = 2;
+const MALFORMED: usize = 2;
 
 // Why an entry refuses, where the answer tells nothing but the number.
 pub enum Refusal {

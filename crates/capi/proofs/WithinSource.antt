@@ -11,7 +11,7 @@ use Rattle.tables.proofs.InGood.{good-link}
 use Rattle.named.proofs.ByName.{by-anchor, coded-each}
 use Rattle.answers.specs.Context.{contextNumbers}
 use Rattle.answers.specs.declared.context_answer.ContextNumbers.{ContextNumbers}
-use Rattle.capi.specs.Part.{sourceOctets, IsContext}
+use Rattle.capi.specs.ContextTold.{sourceOctets, ContextTold}
 
 pub within : (t : Table) (base : List ℕ) (i : ℕ) {o : ContextOut} → Context t base i o
     → InText (sourceOctets (t .text) base (contextNumbers o .source)) (o .start) (o .end)
@@ -23,6 +23,6 @@ within t base i (anchored u h e) =
     (sym (by-anchor (t .text) ((linkAt (t .linkSlots) (t .paramSlots) i) .params)) ∙ e) .value-span
 within t base i (unanchored u h e) = record { ordered = omega arith; inside = omega arith }
 
-pub is-context : {t : Table} {base : List ℕ} {i : ℕ} {o : ContextOut} {r : ContextNumbers} → Context t base i o
-    → r ≡ contextNumbers o → IsContext t base i r
-is-context {t} {base} {i} {o} c e = record { out = o; outcome = c; numbers = e; within = rw e (within t base i c) }
+pub is-told : {t : Table} {base : List ℕ} {i : ℕ} {o : ContextOut} {r : ContextNumbers} → Context t base i o
+    → r ≡ contextNumbers o → ContextTold t base i r
+is-told {t} {base} {i} {o} c e = record { out = o; outcome = c; numbers = e; within = rw e (within t base i c) }

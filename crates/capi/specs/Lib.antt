@@ -1,2 +1,2 @@
 -- What the numbers that C gets of a context stand for.
-pub mod Part
+pub mod ContextTold

@@ -4,7 +4,7 @@ ghost use mathlib.Core.Path.{_≡_};
 ghost use Rattle.answers.specs.Length.{lengthOut};
 ghost use Rattle.answers.specs.Read.{readOut};
 ghost use Rattle.answers.specs.Search.{searchOut};
-ghost use Rattle.capi.specs.Part.{IsContext};
+ghost use Rattle.capi.specs.ContextTold.{ContextTold};
 ghost use Rattle.outcomes.specs.Copy.{Copy};
 ghost use Rattle.outcomes.specs.Read.{Read};
 ghost use Rattle.outcomes.specs.Search.{Search};
@@ -69,7 +69,7 @@ pub extern "C" fn capstan_context<'a>(
     link: usize,
 ) -> ContextNumbers
     ensures { λ r. ⌜
-        IsContext
+        ContextTold
         (tableOf (now (text .entry)) (now (links .entry)) (now (params .entry)) «link_count» «param_count»)
         (now (base .entry)) link r ⌝ }
 {

@@ -1,12 +1,10 @@
 // Where a reading stands. A cursor goes by value, and each move hands back the moved cursor.
 ghost use mathlib.Core.Path.{_≡_};
-ghost use mathlib.Core.Bool.{Bool};
 ghost use Prim.Native.Nat.{_+_, _≤_, _<_};
-ghost use lib.Dec.{leb};
 ghost use lib.ListN.{length};
 ghost use Rattle.octets.specs.Sets.{isBlank, isToken, isPlain, isTarget};
 ghost use Rattle.octets.specs.Member.{isIn};
-ghost use Rattle.cursor.specs.Passed.{Passed, Looked};
+ghost use Rattle.cursor.specs.Passed.{Passed, Looked, LookedIn};
 use kinds::Place;
 use kinds::Span;
 use octets::sets::Set;
@@ -23,13 +21,6 @@ impl Cursor {
         Cursor { at: Place(0) }
     }
 
-    // Whether no octet stands here or further on.
-    pub fn at_end(self, s: &[u8]) -> bool
-        ensures { λ r. ⌜ r ≡ leb (length (now (s .entry))) (self .at .0) ⌝ }
-    {
-        s.len() <= self.at.0
-    }
-
     // Whether the octet c stands here.
     pub fn sees(self, s: &[u8], c: u8) -> bool
         ensures { λ r. ⌜ Looked (now (s .entry)) (self .at .0) c r ⌝ }
@@ -37,6 +28,17 @@ impl Cursor {
         let i = self.at.0;
         if i < s.len() {
             return s[i] == c;
+        }
+        false
+    }
+
+    // Whether an octet of the set stands here.
+    pub fn sees_in(self, s: &[u8], set: Set) -> bool
+        ensures { λ r. ⌜ LookedIn (isIn set) (now (s .entry)) (self .at .0) r ⌝ }
+    {
+        let i = self.at.0;
+        if i < s.len() {
+            return octets::sets::is_in(set, s[i]);
         }
         false
     }

@@ -53,11 +53,11 @@ ordered-more : (s : List ℕ) (l : Link) (ls : List Link) → ordered s (l ∷ l
 ordered-more s l ls = ap (map (keptLink s)) (reverse-cons l ls) ∙ map-append (keptLink s) (reverse ls) (l ∷ [])
 
 -- both tables hold the records of the links ls, held last first
-pub record Held (s L₀ P₀ : List ℕ) (ls : List Link) (L P : List ℕ) : Type 0 where
+pub record LinksHeld (s L₀ P₀ : List ℕ) (ls : List Link) (L P : List ℕ) : Type 0 where
   pub link-slots : L ≡ sets L₀ 0 (linkRecords 0 (ordered s ls))
   pub param-slots : P ≡ sets P₀ 0 (paramRecords (ordered s ls))
 
-held-lengths : {s L₀ P₀ L P : List ℕ} {ls : List Link} → Held s L₀ P₀ ls L P → (length L ≡ length L₀) × (length P ≡ length P₀)
+held-lengths : {s L₀ P₀ L P : List ℕ} {ls : List Link} → LinksHeld s L₀ P₀ ls L P → (length L ≡ length L₀) × (length P ≡ length P₀)
 held-lengths {s} {L₀} {P₀} {ls = ls} h = (
   ap length (h .link-slots) ∙ length-sets L₀ 0 (linkRecords 0 (ordered s ls)),
   ap length (h .param-slots) ∙ length-sets P₀ 0 (paramRecords (ordered s ls)),
@@ -73,11 +73,11 @@ pub record LinksWritten (s L₀ P₀ : List ℕ) (i n m : ℕ) (L P : List ℕ) 
   pub stands : Stands s (gap links) i
   pub link-number : n ≡ length links
   pub param-number : m ≡ countParams (map (keptLink s) links)
-  pub held : Held s L₀ P₀ links L P
+  pub held : LinksHeld s L₀ P₀ links L P
 
 module _ {s L₀ P₀ : List ℕ} (fits : ReadingFits s L₀ P₀) where
   -- a header that ends with these links read has their reading
-  held-filled : {L P : List ℕ} (ls : List Link) → Field rfc8288 s (reverse ls) → Held s L₀ P₀ ls L P → TablesFilled s L₀ L P₀ P
+  held-filled : {L P : List ℕ} (ls : List Link) → Field rfc8288 s (reverse ls) → LinksHeld s L₀ P₀ ls L P → TablesFilled s L₀ L P₀ P
   held-filled ls f h =
       let K = ordered s ls in
       let reads : Reading rfc8288 s K = record { links = reverse ls; derived = f; kept = refl } in
@@ -193,7 +193,7 @@ module _ {s L₀ P₀ : List ℕ} (fits : ReadingFits s L₀ P₀) where
               (ap paramRecords (ordered-more s link (w .links))
               ∙ param-records-append (ordered s (w .links)) (keptLink s link ∷ []))
 
-          held-more : Held s L₀ P₀ (link ∷ w .links) L′ P′
+          held-more : LinksHeld s L₀ P₀ (link ∷ w .links) L′ P′
           unfolding numbers kept
           held-more =
               let K = ordered s (w .links) in

@@ -1,9 +1,6 @@
 // Comparison of texts with A to Z read as a to z (definitions: the crate `octets`).
 ghost use mathlib.Core.Path.{_≡_};
-ghost use Prim.Native.Nat.{_≤_};
 ghost use lib.Dec.{eqb};
-ghost use lib.ListN.{length};
-ghost use lib.Seq.{slice};
 ghost use Rattle.octets.specs.Fold.{fold, sameFolded};
 
 // A to Z become a to z, and no other octet changes.
@@ -37,12 +34,4 @@ pub fn same_folded(x: &[u8], y: &[u8]) -> bool
         i += 1;
     }
     true
-}
-
-// The same of two parts: of s from a to b, and of t from c to d.
-pub fn same_folded_part(s: &[u8], a: usize, b: usize, t: &[u8], c: usize, d: usize) -> bool
-    requires { ⌜ (a ≤ b) × (b ≤ length (now s)) × (c ≤ d) × (d ≤ length (now t)) ⌝ }
-    ensures { λ r. ⌜ r ≡ sameFolded (slice a b (now (s .entry))) (slice c d (now (t .entry))) ⌝ }
-{
-    same_folded(&s[a..b], &t[c..d])
 }

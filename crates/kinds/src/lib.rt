@@ -28,13 +28,6 @@ pub struct Span {
 }
 
 impl Place {
-    // The place of the text's first octet.
-    pub fn start() -> Place
-        ensures { λ r. ⌜ r .0 ≡ 0 ⌝ }
-    {
-        Place(0)
-    }
-
     // The place behind this one.
     pub fn next(self) -> Place
         requires { ⌜ self .0 + 1 < 2 ^ 64 ⌝ }

@@ -85,7 +85,7 @@ regood {h} {L} {L′} {P} {P′} {n} {n′} {m} {m′} l p c d g =
     (subst₂ (λ (x y : ℕ). Good (record { text = h; linkSlots = L; paramSlots = P; linkCount = x; paramCount = y })) c d g)
 
 -- what is known once the records are those of a reading
-pub record Known (h ls ps : List ℕ) : Type 0 where
+pub record KnownRow (h ls ps : List ℕ) : Type 0 where
   pub fills : (L P : List ℕ) → length ls / linkWidth ≤ linkRoom L → length ps / paramWidth ≤ paramRoom P
       → Read h L P
       (record {
@@ -98,12 +98,12 @@ pub record Known (h ls ps : List ℕ) : Type 0 where
       })
   pub usable : Usable (recordedTable h ls ps)
 
-known : (h : List ℕ) → length h ≤ limit → (K : List Link) → Reading rfc8288 h K → Known h (linkRecords 0 K) (paramRecords K)
+known : (h : List ℕ) → length h ≤ limit → (K : List Link) → Reading rfc8288 h K → KnownRow h (linkRecords 0 K) (paramRecords K)
 known h short K r =
     let l = link-records-length 0 K in
     let p = param-records-length K in
-    let n : length K ≡ length (linkRecords 0 K) / 4 = omega arith in
-    let m : countParams K ≡ length (paramRecords K) / 5 = omega arith in
+    let n : length K ≡ length (linkRecords 0 K) / linkWidth = omega arith in
+    let m : countParams K ≡ length (paramRecords K) / paramWidth = omega arith in
     record {
       fills = λ L P x y. rw (← n, ← m, l, p) (Read.reads short r (omega arith) (omega arith));
       usable =
@@ -113,15 +113,15 @@ known h short K r =
           };
     }
 
-pub recorded-known : (h ls ps : List ℕ) → length h ≤ limit → recorded h ls ps (read h) ≡ true → Known h ls ps
+pub recorded-known : (h ls ps : List ℕ) → length h ≤ limit → recorded h ls ps (read h) ≡ true → KnownRow h ls ps
 recorded-known h ls ps short e = go (read h) refl e
   where
-    go : (x : Option (List Link)) → read h ≡ x → recorded h ls ps x ≡ true → Known h ls ps
+    go : (x : Option (List Link)) → read h ≡ x → recorded h ls ps x ≡ true → KnownRow h ls ps
     go none q e = absurd (false≢true e)
     go (some R) q e =
         let K = map (keptLink h) R in
         let (l, p) = both (same (linkRecords 0 K) ls) (same (paramRecords K) ps) e in
-        subst₂ (λ (x y : List ℕ). Known h x y) (same-sound (linkRecords 0 K) ls l) (same-sound (paramRecords K) ps p)
+        subst₂ (λ (x y : List ℕ). KnownRow h x y) (same-sound (linkRecords 0 K) ls l) (same-sound (paramRecords K) ps p)
         (known h short K (read-reading rfc8288 admissible8288 h R q))
 
 is-none : {A : Type 0} (xs : List A) → isNone xs ≡ true → xs ≡ []

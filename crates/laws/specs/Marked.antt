@@ -2,6 +2,7 @@
 use Prim.Native.Nat.{ℕ}
 use mathlib.Core.List.{List, [], _∷_}
 use Rattle.octets.specs.Text.{octets}
+use Rattle.outcomes.specs.Number.{noRelation}
 use Rattle.laws.specs.Row.{Row, reads, malformed, writes, answers}
 
 abbrev pub marked : List Row
@@ -16,7 +17,7 @@ marked =
     }
     ∷ record {
       header = octets "<>;x";
-      judgement = reads (1 ∷ 1 ∷ 0 ∷ 1 ∷ []) (3 ∷ 4 ∷ 4 ∷ 4 ∷ 0 ∷ []) [] (answers 6);
+      judgement = reads (1 ∷ 1 ∷ 0 ∷ 1 ∷ []) (3 ∷ 4 ∷ 4 ∷ 4 ∷ 0 ∷ []) [] (answers noRelation);
     }
     ∷ record {
       header = octets "<a>;REL=Next;rel=prev";
@@ -35,6 +36,6 @@ marked =
     ∷ record { header = octets "<a>;x=,<b>"; judgement = malformed 6 }
     ∷ record {
       header = octets "<a>;t=\"b,c\"";
-      judgement = reads (1 ∷ 2 ∷ 0 ∷ 1 ∷ []) (4 ∷ 5 ∷ 7 ∷ 10 ∷ 2 ∷ []) [] (answers 6);
+      judgement = reads (1 ∷ 2 ∷ 0 ∷ 1 ∷ []) (4 ∷ 5 ∷ 7 ∷ 10 ∷ 2 ∷ []) [] (answers noRelation);
     }
     ∷ []

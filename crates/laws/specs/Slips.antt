@@ -2,6 +2,7 @@
 use Prim.Native.Nat.{ℕ}
 use mathlib.Core.List.{List, [], _∷_}
 use Rattle.octets.specs.Text.{octets}
+use Rattle.outcomes.specs.Number.{noRelation}
 use Rattle.laws.specs.Row.{Row, reads, malformed, writes, answers}
 
 abbrev pub slips : List Row
@@ -9,9 +10,9 @@ slips =
     -- cut short inside quotes
     record { header = octets "<a>;t=\"b"; judgement = malformed 8 }
     -- a comma inside a target parts no links
-    ∷ record { header = octets "<a,b>"; judgement = reads (1 ∷ 4 ∷ 0 ∷ 0 ∷ []) [] [] (answers 6) }
+    ∷ record { header = octets "<a,b>"; judgement = reads (1 ∷ 4 ∷ 0 ∷ 0 ∷ []) [] [] (answers noRelation) }
     -- an empty place before the first link
-    ∷ record { header = octets ",<a>"; judgement = reads (2 ∷ 3 ∷ 0 ∷ 0 ∷ []) [] [] (answers 6) }
+    ∷ record { header = octets ",<a>"; judgement = reads (2 ∷ 3 ∷ 0 ∷ 0 ∷ []) [] [] (answers noRelation) }
     -- a semicolon and a comma inside quotes part nothing
     ∷ record {
       header = octets "<a>;t=\";,\";rel=b";
@@ -50,15 +51,15 @@ slips =
           (writes (octets "<a>; rel=b; c=\"\", <d>; rel=e"));
     }
     -- a `rel` without a value, with an empty one, or with spaces alone, also escaped ones, holds no relation
-    ∷ record { header = octets "<a>;rel"; judgement = reads (1 ∷ 2 ∷ 0 ∷ 1 ∷ []) (4 ∷ 7 ∷ 7 ∷ 7 ∷ 0 ∷ []) [] (answers 6) }
-    ∷ record { header = octets "<a>;rel=\"\""; judgement = reads (1 ∷ 2 ∷ 0 ∷ 1 ∷ []) (4 ∷ 7 ∷ 9 ∷ 9 ∷ 2 ∷ []) [] (answers 6) }
+    ∷ record { header = octets "<a>;rel"; judgement = reads (1 ∷ 2 ∷ 0 ∷ 1 ∷ []) (4 ∷ 7 ∷ 7 ∷ 7 ∷ 0 ∷ []) [] (answers noRelation) }
+    ∷ record { header = octets "<a>;rel=\"\""; judgement = reads (1 ∷ 2 ∷ 0 ∷ 1 ∷ []) (4 ∷ 7 ∷ 9 ∷ 9 ∷ 2 ∷ []) [] (answers noRelation) }
     ∷ record {
       header = octets "<a>;rel=\"  \"";
-      judgement = reads (1 ∷ 2 ∷ 0 ∷ 1 ∷ []) (4 ∷ 7 ∷ 9 ∷ 11 ∷ 2 ∷ []) [] (answers 6);
+      judgement = reads (1 ∷ 2 ∷ 0 ∷ 1 ∷ []) (4 ∷ 7 ∷ 9 ∷ 11 ∷ 2 ∷ []) [] (answers noRelation);
     }
     ∷ record {
       header = octets "<a>;rel=\"\\ \\ \"";
-      judgement = reads (1 ∷ 2 ∷ 0 ∷ 1 ∷ []) (4 ∷ 7 ∷ 9 ∷ 13 ∷ 2 ∷ []) [] (answers 6);
+      judgement = reads (1 ∷ 2 ∷ 0 ∷ 1 ∷ []) (4 ∷ 7 ∷ 9 ∷ 13 ∷ 2 ∷ []) [] (answers noRelation);
     }
     -- a later one of a kept name must still be well formed
     ∷ record { header = octets "<a>;rel=b;rel=;"; judgement = malformed 14 }

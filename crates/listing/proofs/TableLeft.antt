@@ -36,12 +36,12 @@ ends L i zero f = omega (arith, f)
 ends L i (suc n) f = omega (arith, ends L (suc i) n (f .1))
 
 -- link i's parameters stand in the slots, and what is left behind it
-record Passed (L P : List ℕ) (n m i : ℕ) : Type 0 where
+record LinkPassed (L P : List ℕ) (n m i : ℕ) : Type 0 where
   inside : firstOf L i + countOf L i ≤ paramRoom P
   behind : TableLeft L P n m (suc i)
 
 module _ {L P : List ℕ} {n m i : ℕ} where
-  pass : (k from : ℕ) → Held L P n m → i + k ≡ n → Follows L i k from m → i < n → Passed L P n m i
+  pass : (k from : ℕ) → Held L P n m → i + k ≡ n → Follows L i k from m → i < n → LinkPassed L P n m i
   pass zero from h e f lt = absurd (omega (arith, e, lt))
   pass (suc k) from h e f lt =
       record {
@@ -49,7 +49,7 @@ module _ {L P : List ℕ} {n m i : ℕ} where
         behind = record { held = h; left = k; from = from + countOf L i; number = omega (arith, e); follows = f .1 };
       }
 
-  passed : TableLeft L P n m i → i < n → Passed L P n m i
+  passed : TableLeft L P n m i → i < n → LinkPassed L P n m i
   passed o = pass (o .left) (o .from) (o .held) (o .number) (o .follows)
 
   pub link-room : TableLeft L P n m i → i < n → i < linkRoom L

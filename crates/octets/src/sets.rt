@@ -6,7 +6,7 @@ ghost use Rattle.octets.specs.Member.{isIn};
 use crate::bits::in_bits;
 
 // SP or HTAB.
-pub fn is_blank(c: u8) -> bool
+fn is_blank(c: u8) -> bool
     ensures { λ r. ⌜ r ≡ isBlank c ⌝ }
 {
     (c == b' ') | (c == b'\t')
@@ -43,12 +43,13 @@ pub fn is_target(c: u8) -> bool
     in_bits(0xafff_ffda_0000_0000, 0x47ff_fffe_afff_ffff, c)
 }
 
-// The sets whose runs a cursor passes.
+// The sets that a cursor passes runs of, or looks for.
 pub enum Set {
     Blank,
     Token,
     Target,
     Plain,
+    Escapable,
 }
 
 // Whether the octet is in the set.
@@ -60,6 +61,7 @@ pub fn is_in(set: Set, c: u8) -> bool
         Set::Token => is_token(c),
         Set::Target => is_target(c),
         Set::Plain => is_plain(c),
+        Set::Escapable => is_escapable(c),
     }
 }
 

@@ -16,7 +16,7 @@ use Rattle.outcomes.specs.Read.{ReadOut, refused, filled, Read, too-long
 use Rattle.outcomes.specs.Laws.{ReadSettled}
 use Rattle.outcomes.proofs.Cases.{Branch, this, that, Order, only, branch, order, settled}
 
--- the place that is answered of a malformedHeader header
+-- the place that is answered of a malformed header
 abbrev place : List ℕ → ℕ
 place h = one-place rfc8288 admissible8288 h .0
 

@@ -11,11 +11,11 @@ use Rattle.octets.specs.Sets.{isPlain, isEscapable}
 use Rattle.grammar.specs.Grammar.{rfc8288, At, In, Run, run-end, run-more, Inside, inside-end, plain, pair}
 use Rattle.grammar.proofs.Classes.{plain-not-quote, plain-not-backslash}
 use Rattle.grammar.specs.Machine.{quote, escape, Open}
-use Rattle.cursor.specs.Passed.{Passed, Looked}
+use Rattle.cursor.specs.Passed.{Passed, Looked, LookedIn}
 use Rattle.scan_parts.specs.declared.Scan.the-variants.{Stuck}
 use Rattle.grammar.specs.Place.{MalformedAt}
 use Rattle.scan_parts.specs.Stands.{Stands}
-use Rattle.scan_parts.specs.Scanned.{LookedIn, InsideScanned, no-quote}
+use Rattle.scan_parts.specs.Scanned.{InsideScanned, no-quote}
 use Rattle.scan_parts.proofs.Standing.{stands-on, halts}
 
 -- how far the inside has been passed, from place a: to i, where no plain octet stands

@@ -1,7 +1,7 @@
 -- What each scan promises of its answer: what it passed, or that the header is malformed there, if the machine stood before it.
 use Prim.Native.Nat.{ℕ, suc, _<_}
 use mathlib.Core.Path.{_≡_}
-use mathlib.Core.Bool.{Bool, true, false}
+use mathlib.Core.Bool.{Bool, false}
 use mathlib.Core.List.{List}
 use lib.ListN.{length, getD}
 use Rattle.octets.specs.Sets.{isHex}
@@ -20,11 +20,6 @@ use Rattle.scan_parts.specs.declared.ParamScan.{ParamScan}
 use Rattle.scan_parts.specs.declared.ParamScan.the-variants.{NoParam, Param}
 use Rattle.scan_parts.specs.Stands.{Stands}
 use Rattle.scan_parts.specs.Parsed.{ParsedValue, Parsed}
-
--- what a look for an octet of the set f at place i tells
-pub record LookedIn (f : ℕ → Bool) (s : List ℕ) (i : ℕ) (r : Bool) : Type 0 where
-  pub yes : r ≡ true → In s f i
-  pub not : r ≡ false → i < length s → f (getD s i 0) ≡ false
 
 -- one octet of the set f at place a
 pub data OneScanned (f : ℕ → Bool) (s : List ℕ) (a : ℕ) : Scan → Type 0 where

@@ -1,21 +1,10 @@
 // The inside of a quoted string, up to its closing quote.
 ghost use Prim.Native.Nat.{_≤_};
 ghost use lib.ListN.{length};
-ghost use Rattle.octets.specs.Sets.{isEscapable};
-ghost use Rattle.scan_parts.specs.Scanned.{LookedIn, InsideScanned};
+ghost use Rattle.scan_parts.specs.Scanned.{InsideScanned};
 use crate::Scan;
 use cursor::Cursor;
-
-// Whether an octet stands here that may follow a backslash.
-fn sees_escapable(s: &[u8], c: Cursor) -> bool
-    ensures { λ r. ⌜ LookedIn isEscapable (now (s .entry)) (c .at .0) r ⌝ }
-{
-    let i = c.at.0;
-    if i < s.len() {
-        return octets::sets::is_escapable(s[i]);
-    }
-    false
-}
+use octets::sets::Set;
 
 pub fn past_inside(s: &[u8], from: Cursor) -> Scan
     requires { ⌜ from .at .0 ≤ length (now s) ⌝ }
@@ -31,7 +20,7 @@ pub fn past_inside(s: &[u8], from: Cursor) -> Scan
             return Scan::Stuck(at);
         }
         let d = c.past_octet(s);
-        if !sees_escapable(s, d) {
+        if !d.sees_in(s, Set::Escapable) {
             let at = d.at;
             return Scan::Stuck(at);
         }

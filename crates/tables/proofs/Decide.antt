@@ -1,5 +1,5 @@
 -- Whether a table is good is decided, clause by clause.
-use Prim.Native.Nat.{ℕ, zero, suc, _+_, _/_, _≤_, _<_}
+use Prim.Native.Nat.{ℕ, zero, suc, _+_, _≤_, _<_}
 use native.Mathlib.Omega.{arith}
 use native.Mathlib.Decide.{map-dec, decLe, decLt, ℕ-discrete}
 use mathlib.Core.Path.{_≡_, refl, subst}
@@ -11,6 +11,7 @@ use Rattle.octets.specs.Sets.{isToken, isPlain, isEscapable, isTarget, isHex}
 use Rattle.grammar.specs.Link.{Link, Param}
 use Rattle.grammar.specs.Grammar.{At, In, Run, run-end, run-more, Token, Inside, inside-end, plain, pair}
 use Rattle.grammar.specs.Grammar.{Target, target-end, octet, triple}
+use Rattle.grammar.specs.Records.{linkRoom, paramRoom}
 use Rattle.tables.specs.Table.{firstOf, countOf, linksOf}
 use Rattle.tables.specs.Good.{Each, each-none, each-more, Follows, onceEach, InText, GoodValue, no-value, token-value}
 use Rattle.tables.specs.Good.{quoted-value, GoodParam, GoodLink}
@@ -195,6 +196,6 @@ pub good-decided : GoodDecided
 good-decided t =
     map-dec (λ q. record { link-room = q .0; param-room = q .1 .0; follows = q .1 .1 .0; links = q .1 .1 .1 })
     (λ g. (g .link-room, (g .param-room, (g .follows, g .links))))
-    (Dec·and (decLe (t .linkCount) (length (t .linkSlots) / 4))
-    (Dec·and (decLe (t .paramCount) (length (t .paramSlots) / 5))
+    (Dec·and (decLe (t .linkCount) (linkRoom (t .linkSlots)))
+    (Dec·and (decLe (t .paramCount) (paramRoom (t .paramSlots)))
     (Dec·and (follows? (t .linkSlots) 0 (t .linkCount) 0 (t .paramCount)) (each? (link? (t .text)) (linksOf t)))))

@@ -18,7 +18,7 @@ abbrev pub tableOf : List ℕ → List ℕ → List ℕ → ℕ → ℕ → Tabl
 tableOf text links params n m =
     record { text = text; linkSlots = links; paramSlots = params; linkCount = n; paramCount = m }
 
--- parameter record number j, 5 slots
+-- parameter record number j
 abbrev pub paramAt : List ℕ → ℕ → Param
 paramAt P j =
     record {
@@ -34,7 +34,7 @@ abbrev pub paramsFrom : List ℕ → ℕ → ℕ → List Param
 paramsFrom P j zero = []
 paramsFrom P j (suc n) = paramAt P j ∷ paramsFrom P (suc j) n
 
--- of link record number i, 4 slots: number of the first parameter, and count of parameters
+-- of link record number i: number of the first parameter, and count of parameters
 abbrev pub firstOf : List ℕ → ℕ → ℕ
 firstOf L i = getD L (linkWidth * i + 2) 0
 

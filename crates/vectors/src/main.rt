@@ -1,9 +1,13 @@
 // Lists the headers on standard input, one a line, and headers at the edges of lengths and rooms. The name of a case stands
 // before its listing, behind `#`.
 ghost use mathlib.Core.Path.{_≡_};
-ghost use Prim.Native.Nat.{_<_, _≤_};
+ghost use Prim.Native.Nat.{_+_, _<_, _≤_};
 ghost use lib.ListN.{length};
+ghost use Rattle.outcomes.specs.Number.{limit};
+use answers::LIMIT;
 use answers::read_answer::ReadAnswer;
+use records::LINK_SLOTS;
+use records::PARAM_SLOTS;
 
 mod ask;
 
@@ -12,8 +16,8 @@ fn list_header(header: &[u8]) {
     io::write_all(1, b"# ");
     io::write_all(1, header);
     io::write_all(1, b"\n");
-    let mut links = [0usize; 1024];
-    let mut params = [0usize; 5120];
+    let mut links = [0usize; 256 * LINK_SLOTS];
+    let mut params = [0usize; 1024 * PARAM_SLOTS];
     if let ReadAnswer::Done(counts) = listing::list(header, &mut links, &mut params) {
         ask::all(header, &links, &params, counts);
     }
@@ -53,18 +57,18 @@ fn list_long(header: &mut [u8])
     io::write_all(1, b"\n");
     header[0] = b'<';
     header[n - 1] = b'>';
-    let mut links = [0usize; 4];
+    let mut links = [0usize; LINK_SLOTS];
     listing::list(header, &mut links, &mut []);
 }
 
-fn run_of_a() -> [u8; 8193]
-    ensures { λ r. ⌜ 8193 ≡ length r ⌝ }
+fn run_of_a() -> [u8; LIMIT + 1]
+    ensures { λ r. ⌜ limit + 1 ≡ length r ⌝ }
 {
-    [b'a'; 8193]
+    [b'a'; LIMIT + 1]
 }
 
 fn list_length(n: usize)
-    requires { ⌜ (0 < n) × (n ≤ 8193) ⌝ }
+    requires { ⌜ (0 < n) × (n ≤ limit + 1) ⌝ }
 {
     let mut header = run_of_a();
     list_long(&mut header[..n]);
@@ -92,9 +96,9 @@ fn main() {
     let mut input = io::large_buffer();
     let n = io::read_full(0, &mut input);
     list_lines(&input[..n]);
-    list_length(8191);
-    list_length(8192);
-    list_length(8193);
+    list_length(LIMIT - 1);
+    list_length(LIMIT);
+    list_length(LIMIT + 1);
     list_room(8, 15);
     list_room(11, 19);
     list_room(7, 15);

@@ -1,6 +1,6 @@
 -- The numbers are those of the entry's answer.
 use borrow.Author.Needs.{needs}
-use Rattle.capi.proofs.WithinSource.{is-context}
+use Rattle.capi.proofs.WithinSource.{is-told}
 use Rattle.capi.proofs.capstan_context.Statement.{statement}
 use Rattle.capi.proofs.capstan_context.Tie as tie
 
@@ -14,7 +14,7 @@ numbers-requires : tie.Need-numbers-requires
 numbers-requires c κs = search needs
 
 returns : tie.Need-returns
-returns c = is-context (rw (c .before .before .counts-of .ensures) at (c .before .context-number .ensures)) (c .numbers .ensures)
+returns c = is-told (rw (c .before .before .counts-of .ensures) at (c .before .context-number .ensures)) (c .numbers .ensures)
 
 pub capstan-context-spec : {M : Type 1} → statement M
 capstan-context-spec = tie.close (tie.spec counts-of-requires context-number-requires numbers-requires returns)

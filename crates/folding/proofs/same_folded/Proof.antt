@@ -16,13 +16,13 @@ use Rattle.folding.proofs.same_folded.Statement.{statement}
 use Rattle.folding.proofs.same_folded.Tie as tie
 
 -- the octets below i agree
-record Passed (x y : List ℕ) (i : ℕ) : Type 0 where
+record AlikeSoFar (x y : List ℕ) (i : ℕ) : Type 0 where
   inside : i ≤ length x
   lengths : length x ≡ length y
   rest : sameFolded x y ≡ sameFolded (drop i x) (drop i y)
 
 -- one turn: r tells whether the octets at i are the same, folded
-module _ {x y : List ℕ} {i : ℕ} {r : Bool} (h : Passed x y i) (l : i < length x) (e : r ≡ eqb (fold (getD x i 0)) (fold (getD y i 0))) where
+module _ {x y : List ℕ} {i : ℕ} {r : Bool} (h : AlikeSoFar x y i) (l : i < length x) (e : r ≡ eqb (fold (getD x i 0)) (fold (getD y i 0))) where
   turn : sameFolded x y ≡ (r && sameFolded (drop (suc i) x) (drop (suc i) y))
   unfolding sameFolded
   turn = h .rest ∙ rw (drop-cons x i 0 l, drop-cons y i 0 (omega arith), e)
@@ -30,15 +30,15 @@ module _ {x y : List ℕ} {i : ℕ} {r : Bool} (h : Passed x y i) (l : i < lengt
   differ : not r ≡ true → false ≡ sameFolded x y
   differ n = rw (turn, not-true r n)
 
-  agree : not r ≡ false → Passed x y (i + 1)
+  agree : not r ≡ false → AlikeSoFar x y (i + 1)
   agree n = record { inside = omega arith; lengths = h .lengths; rest = rw (add-one, turn, not-false r n) }
 
-through : {x y : List ℕ} {i : ℕ} → Passed x y i → length x ≤ i → true ≡ sameFolded x y
+through : {x y : List ℕ} {i : ℕ} → AlikeSoFar x y i → length x ≤ i → true ≡ sameFolded x y
 unfolding sameFolded
 through {x} {y} {i} h l = rw (h .rest, drop-of-length-le x l, drop-of-length-le y {i = i} (omega arith))
 
 abbrev Inv-loop : tie.InvT-loop
-Inv-loop x y i₀ i = Passed x y i
+Inv-loop x y i₀ i = AlikeSoFar x y i
 
 abbrev μ-loop : tie.MeasureT-loop
 μ-loop x y i₀ i = length x - i

@@ -59,9 +59,10 @@ plus-requires c κs =
 
 loop-holds : tie.Need-loop-holds Inv-loop2 μ-loop2 Inv-loop μ-loop Inv-search μ-search
 loop-holds c =
-    let start = c .before .before .before .before .before .before .before .before .before .before .before .before in
-    rw (c .plus .ensures)
-    (first-param (start .args .relation .now) (start .pre) (c .before .before .before .if1 .left) (c .before .before .link-at .ensures))
+    let b1 = c .before .before .before in
+    let start = c .before .before .before .before .before .before .before .before .before .before .before .before in rw
+    (c .plus .ensures)
+    (first-param (start .args .relation .now) (start .pre) (b1 .if1 .left) (c .before .before .link-at .ensures))
 
 param-at-requires : tie.Need-param-at-requires Inv-loop2 μ-loop2 Inv-loop μ-loop Inv-search μ-search
 param-at-requires c κs = in-room (c .before .before .before .loop .inv .looking) (c .if2 .taken)
@@ -78,9 +79,9 @@ next-run-requires c κs =
 loop2-holds : tie.Need-loop2-holds Inv-loop2 μ-loop2 Inv-loop μ-loop Inv-search μ-search
 unfolding nameOf
 loop2-holds c =
-    let asked = c .before .before .before in
-    first-run (asked .before .before .before .before .before .loop .inv) (asked .before .before .if2 .taken) (asked .before .param-at .ensures)
-    (asked .code .ensures) (c .before .before .if3 .taken) (c .next-run .ensures)
+    let asked = c .before .before .before in first-run (asked .before .before .before .before .before .loop .inv)
+    (asked .before .before .if2 .taken) (asked .before .param-at .ensures) (asked .code .ensures) (c .before .before .if3 .taken)
+    (c .next-run .ensures)
 
 match-run-requires : tie.Need-match-run-requires Inv-loop2 μ-loop2 Inv-loop μ-loop Inv-search μ-search
 match-run-requires c κs =
@@ -88,11 +89,13 @@ match-run-requires c κs =
 
 next-run-requires-2 : tie.Need-next-run-requires-2 Inv-loop2 μ-loop2 Inv-loop μ-loop Inv-search μ-search
 next-run-requires-2 c κs =
-    record { ordered = c .before .match-run .ensures .inside; inside = c .before .before .before .before .before .loop2 .inv .text }
+    let b1 = c .before .before .before .before .before in
+    record { ordered = c .before .match-run .ensures .inside; inside = b1 .loop2 .inv .text }
 
 loop2-less : tie.Need-loop2-less Inv-loop2 μ-loop2 Inv-loop μ-loop Inv-search μ-search
 loop2-less c =
-    omega (arith, c .next-run2 .ensures .forward, c .before .before .match-run .ensures .forward, c .before .before .before .if4 .taken)
+    let b1 = c .before .before .before in
+    omega (arith, c .next-run2 .ensures .forward, c .before .before .match-run .ensures .forward, b1 .if4 .taken)
 
 loop2-again : tie.Need-loop2-again Inv-loop2 μ-loop2 Inv-loop μ-loop Inv-search μ-search
 loop2-again c =
@@ -109,10 +112,13 @@ loop-again c =
 
 next-requires : tie.Need-next-requires Inv-loop2 μ-loop2 Inv-loop μ-loop Inv-search μ-search
 next-requires c κs =
+    let b1 = c .before .before .before in
+    let b2 = b1 .before .before .before in
+    let b3 = b2 .before .before .before .before .before .before .before .before .before .before .before .before .before in
     omega (
       arith,
-      in-room (c .before .before .before .before .before .before .loop .inv .looking) (c .before .before .before .if2 .taken),
-      c .before .before .before .before .before .before .before .before .before .before .before .before .before .before .before .before .before .before .before .good .1 .1 .0 .0,
+      in-room (b2 .loop .inv .looking) (b1 .if2 .taken),
+      b3 .good .1 .1 .0 .0,
     )
 
 loop-less-2 : tie.Need-loop-less-2 Inv-loop2 μ-loop2 Inv-loop μ-loop Inv-search μ-search
@@ -121,23 +127,25 @@ loop-less-2 c = omega (arith, c .next .ensures, c .before .before .before .befor
 loop-again-2 : tie.Need-loop-again-2 Inv-loop2 μ-loop2 Inv-loop μ-loop Inv-search μ-search
 unfolding nameOf
 loop-again-2 c =
-    let asked = c .before .before in
-    rw (c .next .ensures)
-    (next-param (asked .before .before .before .before .before .loop .inv) (asked .before .before .if2 .taken) (asked .before .param-at .ensures)
-    (asked .code .ensures) (c .before .if3 .left))
+    let asked = c .before .before in rw (c .next .ensures)
+    (next-param (asked .before .before .before .before .before .loop .inv) (asked .before .before .if2 .taken)
+    (asked .before .param-at .ensures) (asked .code .ensures) (c .before .if3 .left))
 
 next-requires-2 : tie.Need-next-requires-2 Inv-loop2 μ-loop2 Inv-loop μ-loop Inv-search μ-search
 next-requires-2 c κs =
-    let start = c .before .before .before .before .before .before .before .before .before .before .before .before .before .before .before .before in
-    omega (arith, link-slots (start .pre .good) (c .before .before .before .before .before .before .before .if1 .left), start .good .1 .0 .0)
+    let b1 = c .before .before .before .before .before .before .before in
+    let start = c .before .before .before .before .before .before .before .before .before .before .before .before .before .before
+    .before .before in omega (arith, link-slots (start .pre .good) (b1 .if1 .left), start .good .1 .0 .0)
 
 search-less : tie.Need-search-less Inv-loop2 μ-loop2 Inv-loop μ-loop Inv-search μ-search
 search-less c = omega (arith, c .next2 .ensures, c .before .before .before .before .before .before .before .before .if1 .left)
 
 search-again : tie.Need-search-again Inv-loop2 μ-loop2 Inv-loop μ-loop Inv-search μ-search
 search-again c =
-    let search′ = c .before .before .before .before .before .before .before .before .before .before .before .search in
-    rw (c .next2 .ensures) (one-more (search′ .inv) (none-related (c .before .before .before .before .loop .inv) (c .before .if2 .left)))
+    let b1 = c .before .before .before .before in
+    let b2 = b1 .before .before .before .before .before .before .before in
+    let search′ = b2 .search in rw (c .next2 .ensures)
+    (one-more (search′ .inv) (none-related (b1 .loop .inv) (c .before .if2 .left)))
 
 returns : tie.Need-returns Inv-loop2 μ-loop2 Inv-loop μ-loop Inv-search μ-search
 returns c =
@@ -146,11 +154,11 @@ returns c =
 
 returns-2 : tie.Need-returns-2 Inv-loop2 μ-loop2 Inv-loop μ-loop Inv-search μ-search
 returns-2 c =
-    let loop′ = c .before .before .before .before .before .before .before .before .before .before .before .before .before .before .loop in
-    let loop2′ = c .before .before .before .before .before .loop2 in
-    let search′ = c .before .before .before .before .before .before .before .before .before .before .before .before .before .before .before .before .before .before .before .before .before .search in
-    found (loop′ .inv .usable) (loop′ .inv .is-link) (matched (loop2′ .inv) (c .before .match-run .ensures) (c .if5 .taken))
-    (search′ .inv)
+    let b1 = c .before .before .before .before .before in
+    let b2 = b1 .before .before .before .before .before .before .before .before .before in
+    let b3 = b2 .before .before .before .before .before .before .before in
+    let loop′ = b2 .loop in let loop2′ = b1 .loop2 in let search′ = b3 .search in found (loop′ .inv .usable) (loop′ .inv .is-link)
+    (matched (loop2′ .inv) (c .before .match-run .ensures) (c .if5 .taken)) (search′ .inv)
 
 pub first-with-spec : {M : Type 1} → statement M
 first-with-spec =

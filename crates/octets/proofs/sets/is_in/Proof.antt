@@ -27,6 +27,12 @@ enum-told-4 c = search needs
 is-plain-requires : tie.Need-is-plain-requires
 is-plain-requires c κs = search needs
 
+enum-told-5 : tie.Need-enum-told-5
+enum-told-5 c = search needs
+
+is-escapable-requires : tie.Need-is-escapable-requires
+is-escapable-requires c κs = search needs
+
 returns : tie.Need-returns
 returns c = rw (c .before .enum-told .given .1) (c .is-blank .ensures)
 
@@ -38,6 +44,9 @@ returns-3 c = rw (c .before .enum-told3 .given .1) (c .is-target .ensures)
 
 returns-4 : tie.Need-returns-4
 returns-4 c = rw (c .before .enum-told4 .given .1) (c .is-plain .ensures)
+
+returns-5 : tie.Need-returns-5
+returns-5 c = rw (c .before .enum-told5 .given .1) (c .is-escapable .ensures)
 
 pub is-in-spec : {M : Type 1} → statement M
 is-in-spec =
@@ -51,7 +60,10 @@ is-in-spec =
     is-target-requires
     enum-told-4
     is-plain-requires
+    enum-told-5
+    is-escapable-requires
     returns
     returns-2
     returns-3
-    returns-4)
+    returns-4
+    returns-5)

@@ -43,35 +43,50 @@ returns-2 c =
 past-octet-requires : tie.Need-past-octet-requires Inv-loop μ-loop
 past-octet-requires c κs = ((c .before .sees2 .ensures .yes) (not-false (c .before .sees2 .result) (c .if2 .left))) .inside
 
-sees-escapable-requires : tie.Need-sees-escapable-requires Inv-loop μ-loop
-sees-escapable-requires c κs = search needs
+sees-in-requires : tie.Need-sees-in-requires Inv-loop μ-loop
+sees-in-requires c κs = search needs
 
 returns-3 : tie.Need-returns-3 Inv-loop μ-loop
 returns-3 c =
-    no-pair (since (c .before .before .before .before .before .before .before .before .before .past-plain .ensures) (c .before .before .before .before .before .before .before .before .loop .inv)) ((c .before .before .before .before .before .sees2 .ensures .yes) (not-false (c .before .before .before .before .before .sees2 .result) (c .before .before .before .before .if2 .left))) (c .before .before .before .past-octet .ensures)
-    (c .before .before .sees-escapable .ensures) (c .before .if3 .taken)
+    let b1 = c .before .before .before in
+    let b2 = b1 .before .before .before .before .before in
+    no-pair (since (b2 .before .past-plain .ensures) (b2 .loop .inv))
+    ((b1 .before .before .sees2 .ensures .yes) (not-false (b1 .before .before .sees2 .result) (b1 .before .if2 .left)))
+    (b1 .past-octet .ensures) (c .before .before .sees-in .ensures) (c .before .if3 .taken)
 
 past-octet-requires-2 : tie.Need-past-octet-requires-2 Inv-loop μ-loop
-past-octet-requires-2 c κs = (c .before .sees-escapable .ensures .yes) (not-false (c .before .sees-escapable .result) (c .if3 .left)) .inside
+past-octet-requires-2 c κs =
+    (c .before .sees-in .ensures .yes) (not-false (c .before .sees-in .result) (c .if3 .left)) .inside
 
 past-plain-requires-2 : tie.Need-past-plain-requires-2 Inv-loop μ-loop
-past-plain-requires-2 c κs = omega (arith, c .past-octet2 .ensures, (c .before .before .sees-escapable .ensures .yes) (not-false (c .before .before .sees-escapable .result) (c .before .if3 .left)) .inside)
+past-plain-requires-2 c κs =
+    omega (
+      arith,
+      c .past-octet2 .ensures,
+      (c .before .before .sees-in .ensures .yes)
+          (not-false (c .before .before .sees-in .result) (c .before .if3 .left)) .inside,
+    )
 
 loop-less : tie.Need-loop-less Inv-loop μ-loop
 loop-less c =
+    let b1 = c .before .before .before .before in
     omega (
       arith,
       c .before .past-octet2 .ensures,
-      c .before .before .before .before .past-octet .ensures,
+      b1 .past-octet .ensures,
       c .past-plain2 .ensures .forward,
       c .past-plain2 .ensures .inside,
-      ((c .before .before .before .before .before .before .sees2 .ensures .yes) (not-false (c .before .before .before .before .before .before .sees2 .result) (c .before .before .before .before .before .if2 .left))) .inside,
+      ((b1 .before .before .sees2 .ensures .yes) (not-false (b1 .before .before .sees2 .result) (b1 .before .if2 .left))) .inside,
     )
 
 loop-again : tie.Need-loop-again Inv-loop μ-loop
 loop-again c =
-    more (c .before .before .before .before .before .before .before .before .before .loop .inv) ((c .before .before .before .before .before .before .sees2 .ensures .yes) (not-false (c .before .before .before .before .before .before .sees2 .result) (c .before .before .before .before .before .if2 .left))) (c .before .before .before .before .past-octet .ensures) (c .before .before .before .sees-escapable .ensures)
-    (c .before .before .if3 .left) (c .before .past-octet2 .ensures) (c .past-plain2 .ensures)
+    let b1 = c .before .before .before in
+    let b2 = b1 .before .before .before in
+    let b3 = b2 .before .before .before in
+    more (b3 .loop .inv) ((b2 .sees2 .ensures .yes) (not-false (b2 .sees2 .result) (b1 .before .before .if2 .left)))
+    (b1 .before .past-octet .ensures) (b1 .sees-in .ensures) (c .before .before .if3 .left)
+    (c .before .past-octet2 .ensures) (c .past-plain2 .ensures)
 
 pub past-inside-spec : {M : Type 1} → statement M
 past-inside-spec =
@@ -86,7 +101,7 @@ past-inside-spec =
     sees-requires-2
     returns-2
     past-octet-requires
-    sees-escapable-requires
+    sees-in-requires
     returns-3
     past-octet-requires-2
     past-plain-requires-2

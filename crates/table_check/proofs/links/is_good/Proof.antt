@@ -44,10 +44,10 @@ first-requires-2 c κs = search needs
 
 loop-holds : tie.Need-loop-holds Inv-loop μ-loop
 loop-holds c =
-    let if1′ = c .before .before .before .before .before .if1 in
-    let if2′ = c .before .before .if2 in
-    rw (c .first2 .ensures, c .before .first .ensures)
-    (begin _ _ _ _ _ (c .before .before .before .before .before .before .before .link-room .ensures) (c .before .before .before .before .param-room .ensures) (if1′ .left) (ltb-false _ _ (if2′ .left)))
+    let b1 = c .before .before .before .before in
+    let b2 = b1 .before .before .before in
+    let if1′ = b1 .before .if1 in let if2′ = c .before .before .if2 in rw (c .first2 .ensures, c .before .first .ensures)
+    (begin _ _ _ _ _ (b2 .link-room .ensures) (b1 .param-room .ensures) (if1′ .left) (ltb-false _ _ (if2′ .left)))
 
 link-at-requires : tie.Need-link-at-requires Inv-loop μ-loop
 link-at-requires c κs =
@@ -81,21 +81,23 @@ plus-requires c κs =
 
 next-requires : tie.Need-next-requires Inv-loop μ-loop
 next-requires c κs =
-    let loop′ = c .before .before .before .before .before .before .before .before .before .before .before .before .before .before .loop in
-    omega (arith, c .before .before .before .before .before .before .before .before .before .before .before .if3 .taken, loop′ .inv .link-room)
+    let b1 = c .before .before .before .before .before .before .before .before .before .before .before in
+    let b2 = b1 .before .before .before in
+    let loop′ = b2 .loop in omega (arith, b1 .if3 .taken, loop′ .inv .link-room)
 
 loop-less : tie.Need-loop-less Inv-loop μ-loop
-loop-less c = omega (arith, c .next .ensures, c .before .before .before .before .before .before .before .before .before .before .before .before .if3 .taken)
+loop-less c =
+    let b1 = c .before .before .before .before .before .before .before .before .before .before .before .before in
+    omega (arith, c .next .ensures, b1 .if3 .taken)
 
 loop-again : tie.Need-loop-again Inv-loop μ-loop
 loop-again c =
-    let loop′ = c .before .before .before .before .before .before .before .before .before .before .before .before .before .before .before .loop in
-    let if3′ = c .before .before .before .before .before .before .before .before .before .before .before .before .if3 in
-    let link-at′ = c .before .before .before .before .before .before .before .before .before .before .before .link-at in
-    let if4′ = c .before .before .before .before .before .before .if4 in
-    let if5′ = c .before .before .before .before .if5 in
-    let is-good-link′ = c .before .before .before .is-good-link in
-    rw (c .next .ensures, c .before .plus .ensures)
+    let b1 = c .before .before .before in
+    let b2 = b1 .before .before .before in
+    let b3 = b2 .before .before .before .before .before in
+    let b4 = b3 .before .before .before .before in
+    let loop′ = b4 .loop in let if3′ = b3 .before .if3 in let link-at′ = b3 .link-at in let if4′ = b2 .if4 in let if5′ = b1
+    .before .if5 in let is-good-link′ = b1 .is-good-link in rw (c .next .ensures, c .before .plus .ensures)
     (passed (loop′ .inv) (if3′ .taken) (link-at′ .ensures) (if4′ .left) (ltb-false _ _ (if5′ .left))
     (is-good-link′ .ensures .holds (not-false _ (c .before .before .if6 .left))))
 

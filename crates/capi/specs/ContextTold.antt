@@ -6,16 +6,16 @@ use mathlib.Core.List.{List}
 use lib.Dec.{eqb}
 use Rattle.tables.specs.Table.{Table}
 use Rattle.tables.specs.Good.{InText}
-use Rattle.outcomes.specs.Context.{ContextOut, Context}
-use Rattle.answers.specs.Context.{contextNumbers}
+use Rattle.outcomes.specs.Context.{of-text, ContextOut, Context}
+use Rattle.answers.specs.Context.{sourceNumber, contextNumbers}
 use Rattle.answers.specs.declared.context_answer.ContextNumbers.{ContextNumbers}
 
 -- what the number of a source stands for; a refusal's part is the base's first zero octets
 abbrev pub sourceOctets : List ℕ → List ℕ → ℕ → List ℕ
-sourceOctets text base n = cond (eqb n 1) text base
+sourceOctets text base n = cond (eqb n (sourceNumber of-text)) text base
 
 -- the numbers tell the outcome, of which there is one, and the part lies in its source
-pub record IsContext (t : Table) (base : List ℕ) (i : ℕ) (r : ContextNumbers) : Type 0 where
+pub record ContextTold (t : Table) (base : List ℕ) (i : ℕ) (r : ContextNumbers) : Type 0 where
   pub out : ContextOut
   pub outcome : Context t base i out
   pub numbers : r ≡ contextNumbers out
