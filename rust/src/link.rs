@@ -77,7 +77,7 @@ impl<'a> Link<'a> {
             .find(|param| param.name().eq_ignore_ascii_case(name))
     }
 
-    /// Its context: its `anchor` value as written, also when empty, else the whole base.
+    /// Its context: what its `anchor` holds, as it is written, even if that is nothing; without one, the base.
     ///
     /// ```
     /// # let (mut links, mut params) = ([0; 8], [0; 10]);

@@ -51,8 +51,8 @@ abbrev pub paramSum : List Accepted → ℕ
 paramSum [] = 0
 paramSum (a ∷ hs) = a .alone .out .params + paramSum hs
 
--- the headers' own records, in order: octet places raised by the octets of the join before that header, numbers of a first
--- parameter by the parameters of the headers before, where k octets and m parameters stand before the first of them
+-- the headers' own records, one header behind another, with what stands before each header in the join added: its octets to the
+-- places, its parameters to the number of a first one; k octets and m parameters stand before the first header
 abbrev pub joinedLinks : ℕ → ℕ → List Accepted → List ℕ
 joinedLinks k m [] = []
 joinedLinks k m (a ∷ hs) =

@@ -22,11 +22,11 @@ pub record ContextOut : Type 0 where
   pub start : ℕ
   pub end : ℕ
 
--- refused, it hands back the base's first zero octets
+-- refused, what is handed back is empty, at the base's beginning
 abbrev pub nothing : ℕ → ContextOut
 nothing n = record { number = n; source = of-base; start = 0; end = 0 }
 
--- the octets handed back: a part of the text or a part of the base
+-- the octets handed back, from the text or from the base
 abbrev pub contextOctets : List ℕ → List ℕ → ContextOut → List ℕ
 contextOctets text base o = elim (o .source) [ of-text ↦ slice (o .start) (o .end) text | of-base ↦ slice (o .start) (o .end) base ]
 

@@ -16,8 +16,8 @@ use Rattle.outcomes.specs.Write.{Write}
 abbrev pub Settled : {A : Type 0} → (A → Type 0) → Type 0
 Settled {A} Out = (o : A) × Out o × ((q : A) → Out q → q ≡ o)
 
--- A refusal answers zero in every other number, except the place with number 2, and changes nothing lent; after success the place is
--- 0, and slots and octets past those used keep what they held.
+-- Refused, all numbers but the first are zero (a malformed header has its place too), and what was lent is as before. Done, the place
+-- is 0, and what stands behind the records or octets written is as before.
 pub record ReadKeeps (L P : List ℕ) (o : ReadOut) : Type 0 where
   pub refused : (o .number ≡ done → ⊥)
       → (o .links ≡ 0) × (o .params ≡ 0) × (o .linkSlots ≡ L) × (o .paramSlots ≡ P)

@@ -25,7 +25,7 @@ noParamRoom = 4
 abbrev pub badTable : ℕ
 badTable = 5
 
--- a link to be written has no `rel`, or one with no relations
+-- some link to be written names no relation: no `rel`, or an empty one
 abbrev pub noRelation : ℕ
 noRelation = 6
 

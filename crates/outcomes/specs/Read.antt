@@ -18,7 +18,7 @@ pub record ReadOut : Type 0 where
   pub linkSlots : List ℕ
   pub paramSlots : List ℕ
 
--- of tables that held L and P: a refusal answers zero in every other number, except the place with number 2, and leaves them so
+-- refused with number n at place k (0 unless the header is malformed), tables that held L and P hold them still
 abbrev pub refused : List ℕ → List ℕ → ℕ → ℕ → ReadOut
 refused L P n k = record { number = n; place = k; links = 0; params = 0; linkSlots = L; paramSlots = P }
 

@@ -1,4 +1,4 @@
--- A good table, clause by clause. It need not come from reading: spans may overlap or stand out of order, and nothing is asked of
+-- A good table, clause by clause. Whoever made it, spans may cross or stand in any order, and nothing is asked of
 -- the octets round a span.
 use Prim.Native.Nat.{ℕ, zero, suc, _+_, _≤_}
 use mathlib.Core.Path.{_≡_}
@@ -30,12 +30,12 @@ onceEach s earlier (p ∷ ps) =
     not (isOnce (nameOf s p) && among earlier (nameOf s p)) && onceEach s (nameOf s p ∷ earlier) ps
 
 module _ (s : List ℕ) where
-  -- a span of the text: start at most end, and end at most the text's length
+  -- a span of the text: it ends no earlier than it starts, and no later than the text
   pub record InText (a e : ℕ) : Type 0 where
     pub ordered : a ≤ e
     pub inside : e ≤ length s
 
-  -- every form is 0, 1 or 2; the value obeys the grammar for its form; with form 0 both value places equal the name end
+  -- a form that there is, and a value that the grammar derives for it; no value has its span, empty, where the name ends
   pub data GoodValue (p : Param) : Type 0 where
     no-value : p .form ≡ 0 → p .valueFrom ≡ p .nameTo → p .valueTo ≡ p .nameTo → GoodValue p
     token-value : p .form ≡ 1 → Token s (p .valueFrom) (p .valueTo) → GoodValue p

@@ -51,7 +51,7 @@ fn param_meaning(text: &[u8], param: &Param) -> ParamMeaning {
     }
 }
 
-/// A to Z folded to a to z and no other octet folded.
+/// Capital ASCII letters as small ones; every other octet as it is.
 pub fn folded(octets: &[u8]) -> Vec<u8> {
     octets.to_ascii_lowercase()
 }
