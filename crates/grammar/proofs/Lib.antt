@@ -13,3 +13,4 @@ pub mod Raise
 pub mod Joined
 pub mod Spans
 pub mod Joining
+pub mod Growing

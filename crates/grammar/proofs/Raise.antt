@@ -51,7 +51,7 @@ map-reverseAux f [] ys = refl
 map-reverseAux f (x ∷ xs) ys = map-reverseAux f xs (x ∷ ys)
 
 -- a choice that both sides make
-pick : {A B : Type 0} (f : A → B) (b : Bool) {x y : A} {x′ y′ : B} → x′ ≡ f x → y′ ≡ f y → cond b x′ y′ ≡ f (cond b x y)
+pub pick : {A B : Type 0} (f : A → B) (b : Bool) {x y : A} {x′ y′ : B} → x′ ≡ f x → y′ ≡ f y → cond b x′ y′ ≡ f (cond b x y)
 pick f true p q = p
 pick f false p q = q
 

@@ -1,6 +1,7 @@
--- A machine that reads a header one octet at a time, with one state for each phase of reading. The grammar says what is derived; the
--- machine says the same step by step (law `MachineExact`), for the promises of functions that stand somewhere inside a header. No
--- entry's promise speaks of it. Each phase holds just what it needs; finished links and parameters are held last first.
+-- A machine that reads a header one octet at a time, with a state for each phase of reading. The grammar says what is derived; the
+-- machine says the same step by step (law `MachineExact`), for the promises of functions that stand somewhere inside a header. Of the
+-- entries' promises only what a feeding's state holds speaks of it, for the number of the phase; what entries answer is settled by the
+-- grammar alone. Each phase holds just what it needs; finished links and parameters are held last first.
 use Prim.Native.Nat.{ℕ, suc}
 use mathlib.Core.Bool.{Bool, cond}
 use mathlib.Core.List.{List, [], _∷_, reverse, reverseAux}
@@ -25,6 +26,23 @@ pub data State : Type 0 where
   named equals : Open → ℕ → ℕ → State
   bare wide quote escape : Open → ℕ → ℕ → ℕ → State
   dead : State
+
+-- the number of the phase; a bare value is one phase, whether all its octets are a token's or not
+abbrev pub phaseOf : State → ℕ
+phaseOf (gap ls) = 0
+phaseOf (target ls a) = 1
+phaseOf (percent ls a) = 2
+phaseOf (hex ls a) = 3
+phaseOf (after o) = 4
+phaseOf (semi o) = 5
+phaseOf (name o n) = 6
+phaseOf (named o n e) = 7
+phaseOf (equals o n e) = 8
+phaseOf (bare o n e v) = 9
+phaseOf (wide o n e v) = 9
+phaseOf (quote o n e v) = 10
+phaseOf (escape o n e v) = 11
+phaseOf dead = 12
 
 -- the link just closed by `>`
 abbrev pub opened : List Link → ℕ → ℕ → Open

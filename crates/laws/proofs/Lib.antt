@@ -4,3 +4,7 @@ pub mod Rows
 pub mod Beside
 pub mod Broken
 pub mod Answers
+pub mod HandedRight
+pub mod Feedings
+pub mod OneAnswer
+pub mod FinishedAgain

@@ -3,4 +3,5 @@ pub mod Row
 pub mod Marked
 pub mod Slips
 pub mod Answers
+pub mod Feedings
 pub mod Laws

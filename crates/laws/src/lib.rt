@@ -1,6 +1,8 @@
 // Laws over all the definitions, held by the gate: each function promises one statement of specs/ and does nothing.
 ghost use Rattle.laws.specs.Laws.{MarkedHold, SlipsHold, LookupsHold, PremiseNeeded};
 ghost use Rattle.laws.specs.Answers.{JoinAnswers, JoinRefuses, BackAnswers, WrittenApart};
+ghost use Rattle.laws.specs.Feedings.{FinishReads, CutsDontMatter, FinishAgain, CutShortFinishes, FeedAnswers, FeedTells};
+ghost use Rattle.laws.specs.Feedings.{PlaceStays, TooLongForGood, OneAnswer};
 
 // The twelve marked headers are as they were read by hand.
 pub fn marked_hold()
@@ -40,4 +42,49 @@ pub fn back_answers()
 // Tables that differ in meaning never share their octets.
 pub fn written_apart()
     ensures { λ _. ⌜ WrittenApart ⌝ }
+{}
+
+// From a start, feeds of any parts and the finish answer what reading answers of all their octets.
+pub fn finish_reads()
+    ensures { λ _. ⌜ FinishReads ⌝ }
+{}
+
+// The same octets finish alike, wherever they are cut and whatever the buffers held.
+pub fn cuts_dont_matter()
+    ensures { λ _. ⌜ CutsDontMatter ⌝ }
+{}
+
+// The finish asked again answers and leaves the same.
+pub fn finish_again()
+    ensures { λ _. ⌜ FinishAgain ⌝ }
+{}
+
+// A header cut short is malformed at the finish, with the total as place.
+pub fn cut_short_finishes()
+    ensures { λ _. ⌜ CutShortFinishes ⌝ }
+{}
+
+// A feed behind any parts answers the outcome on all octets so far.
+pub fn feed_answers()
+    ensures { λ _. ⌜ FeedAnswers ⌝ }
+{}
+
+// Within the limit a feed answers 2 exactly if no derivable header begins with the octets so far.
+pub fn feed_tells()
+    ensures { λ _. ⌜ FeedTells ⌝ }
+{}
+
+// Behind a feed that answers 2, feeds within the limit answer 2 with the same place.
+pub fn place_stays()
+    ensures { λ _. ⌜ PlaceStays ⌝ }
+{}
+
+// Behind a feed that answers 1, every feed and the finish answer 1.
+pub fn too_long_for_good()
+    ensures { λ _. ⌜ TooLongForGood ⌝ }
+{}
+
+// What a feed and the finish answer and leave is settled.
+pub fn one_answer()
+    ensures { λ _. ⌜ OneAnswer ⌝ }
 {}

@@ -8,3 +8,4 @@ pub mod ContextSettled
 pub mod CopySettled
 pub mod WriteSettled
 pub mod Refusing
+pub mod FeedSettled

@@ -16,7 +16,8 @@ use Rattle.outcomes.specs.Search as Searching
 use Rattle.outcomes.specs.Context as Contexts
 use Rattle.outcomes.specs.Copy as Copying
 use Rattle.outcomes.specs.Write as Writing
-use Rattle.outcomes.specs.Laws.{ReadKeeps, CopyKeeps, Refusals}
+use Rattle.outcomes.specs.Feed as Feeds
+use Rattle.outcomes.specs.Laws.{ReadKeeps, CopyKeeps, FeedKeeps, Refusals}
 
 -- a refusal whose number is no 0 and no 2
 plainly : (L P : List ℕ) (n : ℕ) → (n ≡ 0 → ⊥) → ReadKeeps L P (Reading.refused L P n 0)
@@ -84,5 +85,28 @@ write t out _ (Writing.long-form u r l) = untouched out 1 (λ e. omega arith)
 write t out _ (Writing.no-room u r h l) = untouched out 7 (λ e. omega arith)
 write t out _ (Writing.wrote u r h k) = holding out (Writing.writtenForm t)
 
+-- a feed that is refused with a number that is no 2
+unstored : (buffer : List ℕ) (n : ℕ) → FeedKeeps buffer (Feeds.unstored buffer n 0)
+unstored buffer n = record { refused = λ _. refl; place = λ _. refl }
+
+feed : (fed part buffer : List ℕ) (o : Feeds.FeedOut) → Feeds.Feed fed part buffer o → FeedKeeps buffer o
+feed fed part buffer _ (Feeds.small-buffer l) = unstored buffer 7
+feed fed part buffer _ (Feeds.too-long h l) = unstored buffer 1
+feed fed part buffer _ (Feeds.begins-none h s n p) = record { refused = λ _. refl; place = λ n. absurd (n refl) }
+feed fed part buffer _ (Feeds.begins h s b) = record { refused = λ n. absurd (n refl); place = λ _. refl }
+
+finish : (fed buffer L P : List ℕ) (o : Reading.ReadOut) → Feeds.Finish fed buffer L P o → ReadKeeps L P o
+finish fed buffer L P _ (Feeds.no-buffer l) = plainly L P 7 (λ e. omega arith)
+finish fed buffer L P o (Feeds.as-read h r) = read fed L P o r
+
 pub refusals : Refusals
-refusals = record { read = read; search = search; context = context; copy = copy; write = write }
+refusals =
+    record {
+      read = read;
+      search = search;
+      context = context;
+      copy = copy;
+      write = write;
+      feed = feed;
+      finish = finish;
+    }

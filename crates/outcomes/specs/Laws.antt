@@ -1,7 +1,7 @@
 -- Each outcome settles everything.
 use Prim.Native.Nat.{ℕ, _*_}
 use mathlib.Core.Path.{_≡_}
-use mathlib.Core.List.{List}
+use mathlib.Core.List.{List, []}
 use lib.ListN.{drop}
 use Rattle.grammar.specs.Records.{linkWidth, paramWidth}
 use Rattle.tables.specs.Table.{Table}
@@ -11,6 +11,8 @@ use Rattle.outcomes.specs.Search.{SearchOut, Search}
 use Rattle.outcomes.specs.Context.{ContextOut, nothing, Context}
 use Rattle.outcomes.specs.Copy.{CopyOut, Copy}
 use Rattle.outcomes.specs.Write.{Write}
+use Rattle.outcomes.specs.Feed.{FeedOut, Feed, Finish}
+use Rattle.outcomes.specs.Feeding.{start, Holds}
 
 -- there is an outcome, and no other
 abbrev pub Settled : {A : Type 0} → (A → Type 0) → Type 0
@@ -29,6 +31,11 @@ pub record CopyKeeps (out : List ℕ) (o : CopyOut) : Type 0 where
   pub refused : (o .number ≡ done → ⊥) → (o .count ≡ 0) × (o .buffer ≡ out)
   pub behind : o .number ≡ done → drop (o .count) (o .buffer) ≡ drop (o .count) out
 
+-- A feed that is refused leaves the gathering buffer as the feed before did; the place is 0 unless the octets are malformed.
+pub record FeedKeeps (buffer : List ℕ) (o : FeedOut) : Type 0 where
+  pub refused : (o .number ≡ done → ⊥) → o .buffer ≡ buffer
+  pub place : (o .number ≡ malformedHeader → ⊥) → o .place ≡ 0
+
 pub record Refusals : Type 0 where
   pub read : (h L P : List ℕ) (o : ReadOut) → Read h L P o → ReadKeeps L P o
   pub search : (t : Table) (q : List ℕ) (o : SearchOut) → Search t q o → (o .number ≡ done → ⊥) → o .link ≡ 0
@@ -36,6 +43,8 @@ pub record Refusals : Type 0 where
       → o ≡ nothing (o .number)
   pub copy : (t : Table) (i j : ℕ) (out : List ℕ) (o : CopyOut) → Copy t i j out o → CopyKeeps out o
   pub write : (t : Table) (out : List ℕ) (o : CopyOut) → Write t out o → CopyKeeps out o
+  pub feed : (fed part buffer : List ℕ) (o : FeedOut) → Feed fed part buffer o → FeedKeeps buffer o
+  pub finish : (fed buffer L P : List ℕ) (o : ReadOut) → Finish fed buffer L P o → ReadKeeps L P o
 
 abbrev pub ReadSettled : Type 0
 ReadSettled = (h L P : List ℕ) → Settled (Read h L P)
@@ -51,3 +60,13 @@ CopySettled = (t : Table) (i j : ℕ) (out : List ℕ) → Settled (Copy t i j o
 
 abbrev pub WriteSettled : Type 0
 WriteSettled = (t : Table) (out : List ℕ) → Settled (Write t out)
+
+abbrev pub FeedSettled : Type 0
+FeedSettled = (fed part buffer : List ℕ) → Settled (Feed fed part buffer)
+
+abbrev pub FinishSettled : Type 0
+FinishSettled = (fed buffer L P : List ℕ) → Settled (Finish fed buffer L P)
+
+-- the state of a start is right for no octets, with any buffer
+abbrev pub StartHolds : Type 0
+StartHolds = (buffer : List ℕ) → Holds [] buffer start

@@ -6,4 +6,6 @@ pub mod Search
 pub mod Context
 pub mod Copy
 pub mod Write
+pub mod Feed
+pub mod Feeding
 pub mod Laws

@@ -5,11 +5,11 @@ use Prim.Native.Nat.{ℕ}
 abbrev pub done : ℕ
 done = 0
 
--- the header, the text or the written form has more octets than the limit
+-- the header, all feeds together, the text or the written form have more octets than the limit
 abbrev pub tooLong : ℕ
 tooLong = 1
 
--- the grammar doesn't derive the header
+-- the grammar doesn't derive the header; at a feed, no derivable header begins with the octets so far
 abbrev pub malformedHeader : ℕ
 malformedHeader = 2
 
@@ -25,11 +25,11 @@ noParamRoom = 4
 abbrev pub badTable : ℕ
 badTable = 5
 
--- some link to be written names no relation: no `rel`, or an empty one
+-- some link to be written has no `rel`, or one with no relations
 abbrev pub noRelation : ℕ
 noRelation = 6
 
--- the output buffer is shorter than the result
+-- the output buffer is shorter than the result, or a gathering buffer than the limit
 abbrev pub noOutputRoom : ℕ
 noOutputRoom = 7
 
@@ -41,6 +41,6 @@ noSuchLink = 8
 abbrev pub notFound : ℕ
 notFound = 9
 
--- the most octets of a header, a text or a written form
+-- the most octets of a header, a text or a written form, and the least of a gathering buffer
 abbrev pub limit : ℕ
 limit = 8192

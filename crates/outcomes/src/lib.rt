@@ -1,5 +1,6 @@
 // The laws of the outcomes, held by the gate: each function promises one statement of specs/Laws.antt and does nothing.
 ghost use Rattle.outcomes.specs.Laws.{Refusals, ReadSettled, SearchSettled, ContextSettled, CopySettled, WriteSettled};
+ghost use Rattle.outcomes.specs.Laws.{FeedSettled, FinishSettled, StartHolds};
 
 // A refusal answers zeros and changes nothing lent, and success keeps what stands behind.
 pub fn refusals()
@@ -29,4 +30,19 @@ pub fn copy_settled()
 // Writing a table has one outcome.
 pub fn write_settled()
     ensures { λ _. ⌜ WriteSettled ⌝ }
+{}
+
+// A feed has one outcome.
+pub fn feed_settled()
+    ensures { λ _. ⌜ FeedSettled ⌝ }
+{}
+
+// So has the finish.
+pub fn finish_settled()
+    ensures { λ _. ⌜ FinishSettled ⌝ }
+{}
+
+// The state of a start is right for no octets.
+pub fn start_holds()
+    ensures { λ _. ⌜ StartHolds ⌝ }
 {}

@@ -1,0 +1,75 @@
+-- The finish asked again reads the same records into the tables that hold them already.
+use Prim.Native.Nat.{ℕ, _*_, _≤_, _/_}
+use native.Mathlib.Omega.{arith}
+use mathlib.Core.Path.{_≡_, refl, sym, ap, _∙_}
+use mathlib.Core.List.{List, _++_}
+use lib.ListN.{length, drop, length-append, length-drop}
+use lib.Seq.{drop-at}
+use Rattle.grammar.specs.Link.{Link}
+use Rattle.grammar.specs.Records.{linkWidth, paramWidth, linkRoom, paramRoom, countParams, linkRecords, paramRecords}
+use Rattle.tables.proofs.Filled.{link-records-length, param-records-length}
+use Rattle.outcomes.specs.Number.{limit}
+use Rattle.outcomes.specs.Read.{ReadOut, filled, Read, too-long, not-derived, no-link-room, no-param-room, reads}
+use Rattle.outcomes.specs.Feed.{Finish, no-buffer, as-read}
+use Rattle.outcomes.proofs.ReadSettled.{read-settled}
+use Rattle.outcomes.proofs.FeedSettled.{finish-settled}
+use Rattle.laws.specs.Feedings.{FinishAgain}
+
+-- records in front of what the slots held keep the count of slots
+same-slots : (rs slots : List ℕ) (n : ℕ) → length rs ≡ n → n ≤ length slots → length (rs ++ drop n slots) ≡ length slots
+same-slots rs slots n e h = omega (arith, length-append rs (drop n slots), length-drop n slots)
+
+-- and behind them stands what stood there
+same-behind : (rs slots : List ℕ) (n : ℕ) → length rs ≡ n → rs ++ drop n (rs ++ drop n slots) ≡ rs ++ drop n slots
+same-behind rs slots n e = ap (λ (u : List ℕ). rs ++ u) (drop-at rs (drop n slots) n e)
+
+module _ (L P : List ℕ) (K : List Link) (f : length K ≤ linkRoom L) (g : countParams K ≤ paramRoom P) where
+  abbrev links-then : List ℕ
+  links-then = linkRecords 0 K ++ drop (linkWidth * length K) L
+
+  abbrev params-then : List ℕ
+  params-then = paramRecords K ++ drop (paramWidth * countParams K) P
+
+  same-link-room : linkRoom links-then ≡ linkRoom L
+  same-link-room =
+      ap (λ (n : ℕ). n / linkWidth)
+      (same-slots (linkRecords 0 K) L (linkWidth * length K) (link-records-length 0 K) (omega arith))
+
+  same-param-room : paramRoom params-then ≡ paramRoom P
+  same-param-room =
+      ap (λ (n : ℕ). n / paramWidth)
+      (same-slots (paramRecords K) P (paramWidth * countParams K) (param-records-length K) (omega arith))
+
+  filled-again : filled links-then params-then K ≡ filled L P K
+  filled-again =
+      rw (
+        same-behind (linkRecords 0 K) L (linkWidth * length K) (link-records-length 0 K),
+        same-behind (paramRecords K) P (paramWidth * countParams K) (param-records-length K),
+      ) refl
+
+read-again : {h L P : List ℕ} {o q : ReadOut} → Read h L P o → Read h (o .linkSlots) (o .paramSlots) q → q ≡ o
+read-again {h} {L} {P} {q = q} (too-long l) r = read-settled h L P .2 q r ∙ sym (read-settled h L P .2 _ (too-long l))
+read-again {h} {L} {P} {q = q} (not-derived s m) r =
+    read-settled h L P .2 q r ∙ sym (read-settled h L P .2 _ (not-derived s m))
+read-again {h} {L} {P} {q = q} (no-link-room s k l) r =
+    read-settled h L P .2 q r ∙ sym (read-settled h L P .2 _ (no-link-room s k l))
+read-again {h} {L} {P} {q = q} (no-param-room s k l m) r =
+    read-settled h L P .2 q r ∙ sym (read-settled h L P .2 _ (no-param-room s k l m))
+read-again {h} {L} {P} {q = q} (reads {K = K} s k f g) r =
+    let one = read-settled h (links-then L P K f g) (params-then L P K f g) .2 in
+    let again : Read h (links-then L P K f g) (params-then L P K f g) (filled (links-then L P K f g) (params-then L P K f g) K) =
+    reads s k (rw (same-link-room L P K f g) f) (rw (same-param-room L P K f g) g)
+    in
+    one q r ∙ sym (one _ again) ∙ filled-again L P K f g
+
+-- with a buffer that is large enough the finish reads
+has-read : {octets buffer L P : List ℕ} {q : ReadOut} → limit ≤ length buffer → Finish octets buffer L P q → Read octets L P q
+has-read l (no-buffer m) = absurd (omega arith)
+has-read l (as-read m b) = b
+
+pub finish-again : FinishAgain
+finish-again octets buffer L P st o q h f g = go (f .answers octets h) (g .answers octets h)
+  where
+    go : {o : ReadOut} → Finish octets buffer L P o → Finish octets buffer (o .linkSlots) (o .paramSlots) q → q ≡ o
+    go (no-buffer l) r = finish-settled octets buffer L P .2 q r ∙ sym (finish-settled octets buffer L P .2 _ (no-buffer l))
+    go (as-read l a) r = read-again a (has-read l r)
