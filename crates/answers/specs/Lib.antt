@@ -4,3 +4,4 @@ pub mod Read
 pub mod Search
 pub mod Context
 pub mod Length
+pub mod Feed

@@ -4,6 +4,7 @@ ghost use mathlib.Core.Path.{_≡_};
 ghost use Rattle.answers.specs.Refusal.{refusalNumber};
 
 pub mod context_answer;
+pub mod feed_answer;
 pub mod length_answer;
 pub mod read_answer;
 pub mod search_answer;

@@ -1,16 +1,20 @@
 // The entries for C. Each asks an entry of the library and hands on the numbers of its answer. A slice is passed as a pointer and
 // a count, and bare numbers become link numbers and counts here.
 ghost use mathlib.Core.Path.{_≡_};
+ghost use Rattle.answers.specs.Feed.{feedOut, stateOf};
 ghost use Rattle.answers.specs.Length.{lengthOut};
 ghost use Rattle.answers.specs.Read.{readOut};
 ghost use Rattle.answers.specs.Search.{searchOut};
 ghost use Rattle.capi.specs.ContextTold.{ContextTold};
 ghost use Rattle.outcomes.specs.Copy.{Copy};
+ghost use Rattle.outcomes.specs.Feeding.{start, Feeds, Finishes};
 ghost use Rattle.outcomes.specs.Read.{Read};
 ghost use Rattle.outcomes.specs.Search.{Search};
 ghost use Rattle.outcomes.specs.Write.{Write};
 ghost use Rattle.tables.specs.Table.{tableOf};
 use answers::context_answer::ContextNumbers;
+use answers::feed_answer::FeedNumbers;
+use answers::feed_answer::Feeding;
 use answers::length_answer::LengthNumbers;
 use answers::read_answer::ReadNumbers;
 use answers::search_answer::SearchNumbers;
@@ -116,4 +120,37 @@ pub extern "C" fn capstan_write(
 {
     let counts = counts_of(link_count, param_count);
     writer::write(text, links, params, counts, out).numbers()
+}
+
+// Begins a feeding.
+#[no_mangle]
+pub extern "C" fn capstan_start() -> Feeding
+    ensures { λ r. ⌜ stateOf r ≡ start ⌝ }
+{
+    feeding::start()
+}
+
+// Takes one part more of a header.
+#[no_mangle]
+pub extern "C" fn capstan_feed(state: Feeding, part: &[u8], buffer: &mut [u8]) -> FeedNumbers
+    ensures { λ r. ⌜
+        Feeds (stateOf state) (now (part .entry)) (now (buffer .entry)) (feedOut r (now (buffer .exit)))
+        (stateOf (r .next)) ⌝ }
+{
+    feeding::feed(state, part, buffer).numbers()
+}
+
+// Reads the header whose parts were taken.
+#[no_mangle]
+pub extern "C" fn capstan_finish(
+    state: Feeding,
+    buffer: &[u8],
+    links: &mut [usize],
+    params: &mut [usize],
+) -> ReadNumbers
+    ensures { λ r. ⌜
+        Finishes (stateOf state) (now (buffer .entry)) (now (links .entry)) (now (params .entry))
+        (readOut r (now (links .exit)) (now (params .exit))) ⌝ }
+{
+    feeding::finish(state, buffer, links, params).numbers()
 }

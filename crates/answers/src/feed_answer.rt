@@ -1,0 +1,54 @@
+// What a feed answers, and what a feeding remembers between calls.
+ghost use mathlib.Core.Path.{_≡_};
+ghost use Rattle.answers.specs.Feed.{feedNumbers};
+use crate::DONE;
+use crate::MALFORMED;
+use crate::Refusal;
+use kinds::Place;
+
+// The phase of reading behind the octets gathered; how many octets counted, at most one past the limit; and, within it, their place. A
+// caller in C holds it from call to call, so that its numbers may be any.
+#[repr(C)]
+pub struct Feeding {
+    pub phase: usize,
+    pub total: usize,
+    pub place: usize,
+}
+
+// The octets so far begin a header, they begin none and have this place, or why the feed is refused otherwise; and the next state.
+pub enum FeedAnswer {
+    Begun(Feeding),
+    Malformed(Place, Feeding),
+    Refused(Refusal, Feeding),
+}
+
+#[repr(C)]
+pub struct FeedNumbers {
+    pub number: usize,
+    pub place: usize,
+    pub next: Feeding,
+}
+
+impl FeedAnswer {
+    pub fn numbers(self) -> FeedNumbers
+        ensures { λ r. ⌜ r ≡ feedNumbers self ⌝ }
+    {
+        match self {
+            FeedAnswer::Begun(next) => FeedNumbers {
+                number: DONE,
+                place: 0,
+                next,
+            },
+            FeedAnswer::Malformed(place, next) => FeedNumbers {
+                number: MALFORMED,
+                place: place.0,
+                next,
+            },
+            FeedAnswer::Refused(why, next) => FeedNumbers {
+                number: why.number(),
+                place: 0,
+                next,
+            },
+        }
+    }
+}

@@ -1,0 +1,4 @@
+-- Laws of feeding.
+pub mod PartLed
+pub mod Feeding
+pub mod Finishing

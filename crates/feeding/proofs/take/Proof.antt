@@ -1,0 +1,81 @@
+-- A part with a fault is refused, and one that leads on is stored.
+use Prim.Native.Nat.{ℕ, _+_}
+use native.Mathlib.Omega.{arith}
+use mathlib.Core.Path.{sym, ap, subst, _∙_}
+use lib.ListN.{length}
+use lib.Seq.{sets}
+use borrow.Author.Needs.{needs}
+use Rattle.outcomes.specs.Feeding.{Feeds}
+use Rattle.feeding.proofs.Feeding.{all-of, scan-stuck, scan-through, gets-stuck, goes-on}
+use Rattle.feeding.proofs.take.Statement.{statement}
+use Rattle.feeding.proofs.take.Tie as tie
+
+add-total : tie.Need-add-total
+add-total c = search needs
+
+scan-part-requires : tie.Need-scan-part-requires
+scan-part-requires c κs = search needs
+
+enum-known-at : tie.Need-enum-known-at
+enum-known-at c = search needs
+
+add-place : tie.Need-add-place
+add-place c =
+    let b1 = c .before .before .before .before in
+    let a = b1 .before .before .before in
+    omega (arith, scan-stuck (b1 .scan-part .ensures) (c .before .before .at .given .1) .inside, a .pre .short)
+
+moved-requires : tie.Need-moved-requires
+moved-requires c κs = search needs
+
+enum-known-phase : tie.Need-enum-known-phase
+enum-known-phase c = search needs
+
+whole-requires : tie.Need-whole-requires
+whole-requires c κs = search needs
+
+put-part-requires : tie.Need-put-part-requires
+put-part-requires c κs =
+    let w = c .before .whole .ensures in
+    let a = c .before .before .before .before .before .before .before .before in (
+      record { ordered = omega (arith, w .0); inside = omega (arith, w .1) },
+      omega (arith, ap length (all-of (a .args .part .now) (w .0) (w .1)), a .pre .short, a .pre .large),
+    )
+
+returns : tie.Need-returns
+returns c =
+    let b1 = c .before .before .before .before .before in
+    let a = b1 .before .before .before in
+    subst (Feeds _ _ _ _) (sym (c .moved .ensures))
+    (gets-stuck (a .pre) (scan-stuck (b1 .scan-part .ensures) (c .before .before .before .at .given .1)))
+
+same-length : tie.Need-same-length
+same-length c = search needs
+
+returns-2 : tie.Need-returns-2
+returns-2 c =
+    let b1 = c .before .before .before .before in
+    let b2 = b1 .before .before .before .before in
+    let a = b2 .before .before .before in
+    let new =
+    c .before .before .put-part .ensures .buffer
+    ∙ ap (sets (a .args .buffer .now) (a .args .state .total))
+    (all-of (a .args .part .now) (b1 .whole .ensures .0) (b1 .whole .ensures .1))
+    in
+    rw new (goes-on (a .pre) (scan-through (b2 .scan-part .ensures) (b1 .before .before .phase .given .1)))
+
+pub take-spec : {M : Type 1} → statement M
+take-spec =
+    tie.close
+    (tie.spec
+    add-total
+    scan-part-requires
+    enum-known-at
+    add-place
+    moved-requires
+    enum-known-phase
+    whole-requires
+    put-part-requires
+    returns
+    same-length
+    returns-2)

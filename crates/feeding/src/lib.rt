@@ -1,0 +1,133 @@
+// A header that arrives in parts. Each part is judged from the phase on in which the one before it ended, and then stored behind what
+// was gathered; so an octet is judged once, however the header is cut, and a refusal stores nothing.
+ghost use mathlib.Core.Path.{_≡_};
+ghost use Prim.Native.Nat.{_+_, _≤_, suc, min};
+ghost use lib.ListN.{length};
+ghost use Rattle.outcomes.specs.Number.{limit};
+ghost use Rattle.outcomes.specs.Feeding.{start, Feeds, Finishes};
+ghost use Rattle.answers.specs.Read.{readNumbers, readOut};
+ghost use Rattle.answers.specs.Feed.{feedNumbers, feedOut, stateOf};
+ghost use Rattle.feeding.specs.Taking.{Takes};
+use answers::LIMIT;
+use answers::Refusal;
+use answers::feed_answer::FeedAnswer;
+use answers::feed_answer::Feeding;
+use answers::read_answer::ReadAnswer;
+use kinds::OutPlace;
+use kinds::Place;
+use kinds::Span;
+use part_scan::PartScan;
+use part_scan::scan_part;
+
+// The state that a feeding starts with.
+pub fn start() -> Feeding
+    ensures { λ r. ⌜ stateOf r ≡ start ⌝ }
+{
+    Feeding {
+        phase: 0,
+        total: 0,
+        place: 0,
+    }
+}
+
+// How many octets count with these more. Behind the limit they are counted no further, so that no sum wraps.
+fn total_with(before: usize, more: usize) -> usize
+    ensures { λ r. ⌜ r ≡ min (before + more) (suc limit) ⌝ }
+{
+    if before > LIMIT {
+        return LIMIT + 1;
+    }
+    if more > LIMIT - before {
+        return LIMIT + 1;
+    }
+    before + more
+}
+
+// The state behind a refusal: its phase stays, and only the total and the place move.
+fn moved(state: Feeding, total: usize, place: usize) -> Feeding
+    ensures { λ r. ⌜ stateOf r ≡ record { phase = state .phase; total = total; place = place } ⌝ }
+{
+    Feeding {
+        phase: state.phase,
+        total,
+        place,
+    }
+}
+
+// All of a part.
+fn whole(part: &[u8]) -> Span
+    ensures { λ r. ⌜ (r .from .0 ≡ 0) × (r .to .0 ≡ length (now (part .entry))) ⌝ }
+{
+    Span {
+        from: Place(0),
+        to: Place(part.len()),
+    }
+}
+
+// A part behind octets that begin some header, for which there is room.
+fn take(state: Feeding, part: &[u8], buffer: &mut [u8]) -> FeedAnswer
+    requires { ⌜ Takes (stateOf state) (now part) (now buffer) ⌝ }
+    ensures { λ r. ⌜ Feeds (stateOf state) (now (part .entry)) (now (buffer .entry))
+        (feedOut (feedNumbers r) (now (buffer .exit))) (stateOf (feedNumbers r .next)) ⌝ }
+{
+    let before = state.total;
+    let total = before + part.len();
+    match scan_part(part, state.phase) {
+        PartScan::Stuck(at) => {
+            let place = before + at.0;
+            FeedAnswer::Malformed(Place(place), moved(state, total, place))
+        }
+        PartScan::Through(phase) => {
+            putting::part::put_part(part, whole(part), buffer, OutPlace(before));
+            FeedAnswer::Begun(Feeding {
+                phase,
+                total,
+                place: total,
+            })
+        }
+    }
+}
+
+// One part more. Within the limit, the place lies before the total just if the octets so far begin no header.
+pub fn feed(state: Feeding, part: &[u8], buffer: &mut [u8]) -> FeedAnswer
+    ensures { λ r. ⌜ Feeds (stateOf state) (now (part .entry)) (now (buffer .entry))
+        (feedOut (feedNumbers r) (now (buffer .exit))) (stateOf (feedNumbers r .next)) ⌝ }
+{
+    let before = state.total;
+    let place = state.place;
+    let sum = total_with(before, part.len());
+    if buffer.len() < LIMIT {
+        return FeedAnswer::Refused(Refusal::NoOutputRoom, moved(state, before, place));
+    }
+    if sum > LIMIT {
+        return FeedAnswer::Refused(Refusal::TooLong, moved(state, sum, place));
+    }
+    if place < before {
+        return FeedAnswer::Malformed(Place(place), moved(state, sum, place));
+    }
+    take(state, part, buffer)
+}
+
+// Reads what was gathered. Octets that begin no header were not gathered whole: their place is remembered.
+pub fn finish(
+    state: Feeding,
+    gathered: &[u8],
+    links: &mut [usize],
+    params: &mut [usize],
+) -> ReadAnswer
+    ensures { λ r. ⌜ Finishes (stateOf state) (now (gathered .entry)) (now (links .entry)) (now (params .entry))
+        (readOut (readNumbers r) (now (links .exit)) (now (params .exit))) ⌝ }
+{
+    let total = state.total;
+    let place = state.place;
+    if gathered.len() < LIMIT {
+        return ReadAnswer::Refused(Refusal::NoOutputRoom);
+    }
+    if total > LIMIT {
+        return ReadAnswer::Refused(Refusal::TooLong);
+    }
+    if place < total {
+        return ReadAnswer::Malformed(Place(place));
+    }
+    reader::read(&gathered[..total], links, params)
+}

@@ -1,0 +1,3 @@
+-- Laws of scanning a part.
+pub mod Leading
+pub mod MachineLed

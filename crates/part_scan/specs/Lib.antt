@@ -1,0 +1,2 @@
+-- What the crate `part_scan` promises.
+pub mod Moved

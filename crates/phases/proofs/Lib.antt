@@ -1,0 +1,2 @@
+-- Laws of the phases.
+pub mod Steps

@@ -1,0 +1,232 @@
+-- The steps of phases, and that a phase goes on as the machine does in any state of that phase.
+use Prim.Native.Nat.{ℕ, suc, _≤_}
+use native.Mathlib.Omega.{arith}
+use mathlib.Core.Path.{_≡_, refl, sym, ap, _∙_}
+use mathlib.Core.Bool.{Bool, true, false, cond, _||_, true≢false}
+use mathlib.Core.List.{List, [], _∷_}
+use lib.Dec.{eqb}
+use lib.ListN.{List·getD-eq-default}
+use borrow.Author.Tests.{eqb-true}
+use Rattle.octets.specs.Sets.{isBlank, isToken, isHex, isTarget, isPlain, isEscapable}
+use Rattle.octets.proofs.Laws.{not-eqb}
+use Rattle.grammar.specs.Grammar.{rfc8288, isBare}
+use Rattle.grammar.specs.Machine as machine
+use Rattle.grammar.specs.Machine.{State, step, phaseOf, Open}
+use Rattle.grammar.proofs.Classes.{token-not-blank, blank-not-token}
+use Rattle.grammar.proofs.Raise.{pick}
+use Rattle.phases.specs.Steps.{
+  stuck,
+  firstOf,
+  tokenOrBlank,
+  linkEndIn,
+  nameEndIn,
+  valueStartIn,
+  orToken,
+  stepsOn,
+  stepIn,
+  FollowsMachine,
+}
+
+-- the step of each phase
+pub on-gap : (c : ℕ) → stepIn 0 c ≡ firstOf 60 1 44 0 isBlank 0 c
+unfolding stepIn
+on-gap c = refl
+
+pub on-target : (c : ℕ) → stepIn 1 c ≡ firstOf 62 4 37 2 isTarget 1 c
+unfolding stepIn
+on-target c = refl
+
+pub on-percent : (c : ℕ) → stepIn 2 c ≡ cond (isHex c) 3 stuck
+unfolding stepIn
+on-percent c = refl
+
+pub on-hex : (c : ℕ) → stepIn 3 c ≡ cond (isHex c) 1 stuck
+unfolding stepIn
+on-hex c = refl
+
+pub on-after : (c : ℕ) → stepIn 4 c ≡ linkEndIn 4 c
+unfolding stepIn
+on-after c = refl
+
+pub on-semi : (c : ℕ) → stepIn 5 c ≡ tokenOrBlank 6 5 c
+unfolding stepIn
+on-semi c = refl
+
+pub on-name : (c : ℕ) → stepIn 6 c ≡ orToken (nameEndIn c) c 6
+unfolding stepIn
+on-name c = refl
+
+pub on-named : (c : ℕ) → stepIn 7 c ≡ nameEndIn c
+unfolding stepIn
+on-named c = refl
+
+pub on-equals : (c : ℕ) → stepIn 8 c ≡ valueStartIn c
+unfolding stepIn
+on-equals c = refl
+
+pub on-bare : (c : ℕ) → stepIn 9 c ≡ orToken (linkEndIn 4 c) c 9
+unfolding stepIn
+on-bare c = refl
+
+pub on-quote : (c : ℕ) → stepIn 10 c ≡ firstOf 34 4 92 11 isPlain 10 c
+unfolding stepIn
+on-quote c = refl
+
+pub on-escape : (c : ℕ) → stepIn 11 c ≡ cond (isEscapable c) 10 stuck
+unfolding stepIn
+on-escape c = refl
+
+on-dead : (c : ℕ) → stepIn stuck c ≡ stuck
+unfolding stepIn
+on-dead c = refl
+
+-- one number more is passed
+up : (k n : ℕ) → k ≤ n → (n ≡ k → ⊥) → suc k ≤ n
+up k n h e = omega arith
+
+-- from a number that is no phase's nothing leads on
+pub on-none : (n c : ℕ)
+    → ((((((((((((Unit {0} × (n ≡ 0 → ⊥)) × (n ≡ 1 → ⊥)) × (n ≡ 2 → ⊥)) × (n ≡ 3 → ⊥)) × (n ≡ 4 → ⊥)) × (n ≡ 5 → ⊥))
+    × (n ≡ 6 → ⊥)) × (n ≡ 7 → ⊥)) × (n ≡ 8 → ⊥)) × (n ≡ 9 → ⊥)) × (n ≡ 10 → ⊥)) × (n ≡ 11 → ⊥)) → stepIn n c ≡ stuck
+unfolding stepIn
+on-none n x ((((((((((((_, a), b), c), d), e), f), g), h), i), j), k), l) =
+    let six : 6 ≤ n = up 5 n (up 4 n (up 3 n (up 2 n (up 1 n (up 0 n (omega arith) a) b) c) d) e) f in
+    List·getD-eq-default (stepsOn x) stuck (up 11 n (up 10 n (up 9 n (up 8 n (up 7 n (up 6 n six g) h) i) j) k) l)
+
+-- ---- tests that exclude each other may change places
+
+swapped : (a b : Bool) (x y z : ℕ) → (a ≡ true → b ≡ false) → cond a x (cond b y z) ≡ cond b y (cond a x z)
+swapped true true x y z h = absurd (true≢false (h refl))
+swapped true false x y z h = refl
+swapped false b x y z h = refl
+
+-- the third one first
+rotated : (a b d : Bool) (x y z w : ℕ) → (d ≡ true → a ≡ false) → (d ≡ true → b ≡ false)
+    → cond a x (cond b y (cond d z w)) ≡ cond d z (cond a x (cond b y w))
+rotated a b true x y z w h k = rw (h refl, k refl) refl
+rotated a b false x y z w h k = refl
+
+-- the first and the third one exchanged
+turned : (a b d : Bool) (x y z w : ℕ) → (a ≡ true → b ≡ false) → (d ≡ true → a ≡ false) → (d ≡ true → b ≡ false)
+    → cond a x (cond b y (cond d z w)) ≡ cond d z (cond b y (cond a x w))
+turned a b d x y z w g h k = rotated a b d x y z w h k ∙ ap (cond d z) (swapped a b x y w g)
+
+-- an octet is no other one
+not-both : (c k n : ℕ) → eqb k n ≡ false → eqb c k ≡ true → eqb c n ≡ false
+not-both c k n e f = rw (eqb-true c k f) e
+
+blank-not : (k c : ℕ) → isBlank k ≡ false → isBlank c ≡ true → eqb c k ≡ false
+blank-not = not-eqb isBlank
+
+target-not : (k c : ℕ) → isTarget k ≡ false → isTarget c ≡ true → eqb c k ≡ false
+target-not = not-eqb isTarget
+
+token-not : (k c : ℕ) → isToken k ≡ false → isToken c ≡ true → eqb c k ≡ false
+token-not = not-eqb isToken
+
+-- ---- each step, in the machine's order of tests
+
+pub gap-step : (c : ℕ) → stepIn 0 c ≡ cond (isBlank c) 0 (cond (eqb c 44) 0 (cond (eqb c 60) 1 stuck))
+unfolding stepIn firstOf isBlank
+gap-step c =
+    turned (eqb c 60) (eqb c 44) (isBlank c) 1 0 0 stuck (not-both c 60 44 refl) (blank-not 60 c refl) (blank-not 44 c refl)
+
+pub target-step : (c : ℕ) → stepIn 1 c ≡ cond (isTarget c) 1 (cond (eqb c 37) 2 (cond (eqb c 62) 4 stuck))
+unfolding stepIn firstOf isTarget
+target-step c =
+    turned (eqb c 62) (eqb c 37) (isTarget c) 4 2 1 stuck (not-both c 62 37 refl) (target-not 62 c refl) (target-not 37 c refl)
+
+pub link-end-step : (b c : ℕ) → linkEndIn b c ≡ cond (isBlank c) b (cond (eqb c 59) 5 (cond (eqb c 44) 0 stuck))
+unfolding linkEndIn firstOf isBlank
+link-end-step b c = rotated (eqb c 59) (eqb c 44) (isBlank c) 5 0 b stuck (blank-not 59 c refl) (blank-not 44 c refl)
+
+pub semi-step : (c : ℕ) → stepIn 5 c ≡ cond (isBlank c) 5 (cond (isToken c) 6 stuck)
+unfolding stepIn tokenOrBlank
+semi-step c = swapped (isToken c) (isBlank c) 6 5 stuck (token-not-blank c)
+
+pub equals-step : (c : ℕ) → stepIn 8 c ≡ cond (isBlank c) 8 (cond (eqb c 34) 10 (cond (isToken c) 9 stuck))
+unfolding stepIn valueStartIn tokenOrBlank isBlank
+equals-step c =
+    rotated (eqb c 34) (isToken c) (isBlank c) 10 9 8 stuck (blank-not 34 c refl) (blank-not-token c)
+
+pub quote-step : (c : ℕ) → stepIn 10 c ≡ cond (eqb c 34) 4 (cond (eqb c 92) 11 (cond (isPlain c) 10 stuck))
+unfolding stepIn firstOf
+quote-step c = refl
+
+-- behind a name, blanks come first, and then what a whole link may be followed by
+pub name-end-step : (c : ℕ) → nameEndIn c ≡ cond (isBlank c) 7 (cond (eqb c 61) 8 (linkEndIn 4 c))
+unfolding nameEndIn isBlank
+name-end-step c = go (isBlank c) refl
+  where
+    go : (x : Bool) → isBlank c ≡ x → nameEndIn c ≡ cond x 7 (cond (eqb c 61) 8 (linkEndIn 4 c))
+    go true e = rw (blank-not 61 c refl e, link-end-step 7 c, e) refl
+    go false e = rw (link-end-step 7 c, link-end-step 4 c, e) refl
+
+-- an octet of a token leads nowhere else
+token-no-end : (b c : ℕ) → isToken c ≡ true → linkEndIn b c ≡ stuck
+unfolding linkEndIn firstOf isToken
+token-no-end b c e = rw (token-not 59 c refl e, token-not 44 c refl e, token-not-blank c e) refl
+
+token-no-name-end : (c : ℕ) → isToken c ≡ true → nameEndIn c ≡ stuck
+unfolding nameEndIn isToken
+token-no-name-end c e = rw (token-not 61 c refl e, token-no-end 7 c e) refl
+
+or-token-step : (e c p : ℕ) → (isToken c ≡ true → e ≡ stuck) → orToken e c p ≡ cond (isToken c) p e
+unfolding orToken
+or-token-step e c p h = go (isToken c) refl
+  where
+    end : (x : Bool) → eqb e stuck ≡ x → cond x stuck e ≡ e
+    end true f = sym (eqb-true e stuck f)
+    end false f = refl
+
+    go : (x : Bool) → isToken c ≡ x → cond (eqb e stuck) (cond x p stuck) e ≡ cond x p e
+    go true f = rw (h f) refl
+    go false f = end (eqb e stuck) refl
+
+-- ---- the machine's step, as its phase
+
+next-phase : (o : Open) (c : ℕ) → linkEndIn 4 c ≡ phaseOf (machine.next o c)
+next-phase o c =
+    link-end-step 4 c
+    ∙ pick phaseOf (isBlank c) refl (pick phaseOf (eqb c 59) refl (pick phaseOf (eqb c 44) refl refl))
+
+name-end-phase : (o : Open) (n e c : ℕ) → nameEndIn c ≡ phaseOf (machine.nameEnd o n e c)
+name-end-phase o n e c =
+    name-end-step c
+    ∙ pick phaseOf (isBlank c) refl
+    (pick phaseOf (eqb c 61) refl (next-phase (machine.add (machine.flag n e) o) c))
+
+-- a test that further octets might pass, where there are none
+none-further : (b : Bool) → b ≡ b || false
+none-further true = refl
+none-further false = refl
+
+pub name-step : (c : ℕ) → stepIn 6 c ≡ cond (isToken c) 6 (nameEndIn c)
+name-step c = on-name c ∙ or-token-step (nameEndIn c) c 6 (token-no-name-end c)
+
+pub bare-step : (c : ℕ) → stepIn 9 c ≡ cond (isToken c) 9 (linkEndIn 4 c)
+bare-step c = on-bare c ∙ or-token-step (linkEndIn 4 c) c 9 (token-no-end 4 c)
+
+pub phase-step : FollowsMachine
+phase-step (machine.gap ls) i c =
+    gap-step c ∙ pick phaseOf (isBlank c) refl (pick phaseOf (eqb c 44) refl (pick phaseOf (eqb c 60) refl refl))
+phase-step (machine.target ls a) i c =
+    target-step c ∙ pick phaseOf (isTarget c) refl (pick phaseOf (eqb c 37) refl (pick phaseOf (eqb c 62) refl refl))
+phase-step (machine.percent ls a) i c = on-percent c ∙ pick phaseOf (isHex c) refl refl
+phase-step (machine.hex ls a) i c = on-hex c ∙ pick phaseOf (isHex c) refl refl
+phase-step (machine.after o) i c = on-after c ∙ next-phase o c
+phase-step (machine.semi o) i c = semi-step c ∙ pick phaseOf (isBlank c) refl (pick phaseOf (isToken c) refl refl)
+phase-step (machine.name o n) i c =
+    name-step c ∙ pick phaseOf (isToken c) refl (name-end-phase o n i c)
+phase-step (machine.named o n e) i c = on-named c ∙ name-end-phase o n e c
+phase-step (machine.equals o n e) i c =
+    equals-step c ∙ pick phaseOf (isBlank c) refl (pick phaseOf (eqb c 34) refl (pick phaseOf (isToken c) refl refl))
+phase-step (machine.bare o n e v) i c =
+    bare-step c ∙ pick phaseOf (isToken c) refl (next-phase (machine.add (machine.param n e v i 1) o) c)
+phase-step (machine.wide o n e v) i c =
+    bare-step c ∙ ap (λ b. cond b 9 (linkEndIn 4 c)) (none-further (isToken c))
+    ∙ pick phaseOf (isBare rfc8288 c) refl (next-phase (machine.add (machine.param n e v i 3) o) c)
+phase-step (machine.quote o n e v) i c =
+    quote-step c ∙ pick phaseOf (eqb c 34) refl (pick phaseOf (eqb c 92) refl (pick phaseOf (isPlain c) refl refl))
+phase-step (machine.escape o n e v) i c = on-escape c ∙ pick phaseOf (isEscapable c) refl refl
+phase-step machine.dead i c = on-dead c

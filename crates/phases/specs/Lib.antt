@@ -1,0 +1,2 @@
+-- What the crate `phases` means by its words.
+pub mod Steps
