@@ -1,16 +1,18 @@
 /*
  * Reads, searches and writes HTTP Link field values (RFC 8288).
  *
- * Every function is proved to answer as the definitions in crates/outcomes/specs settle it, for every input. It allocates nothing, keeps
- * nothing between calls, calls nothing of the C library, and may run on several threads at once. Link with libcapstan.a (Linux on
- * x86-64), which ./build-library puts under dist/ beside a copy of this file. Octets may be any, NUL too; no text ends with one.
+ * Every function is proved to answer as the definitions in crates/outcomes/specs settle it, for every input; of a feeding's state that
+ * isn't as it was handed out they say what still holds. It allocates nothing, keeps nothing between calls, calls nothing of the C
+ * library, and may run on several threads at once. Link with libcapstan.a (Linux on x86-64), which ./build-library puts under dist/
+ * beside a copy of this file. Octets may be any, NUL too; no text ends with one.
  *
  * What a caller must hold, since nothing checks it:
  *
  * - A pointer is not null, also where its count is 0 (the address of any object will do then), and is aligned for its type.
  * - It points to at least as many elements as the count behind it says. All of them have been set to some value, also the slots that
- *   reading is to fill and the octets of `out`.
- * - What a function writes to (`links` and `params` of capstan_read, `out`) overlaps no other argument.
+ *   reading is to fill and the octets of `out` and of `buffer`, whatever they hold.
+ * - What a function writes to (`links` and `params` of capstan_read and capstan_finish, `out`, `buffer` of capstan_feed) overlaps no
+ *   other argument.
  * - No other thread writes to an argument, or reads one that is written to, while the call runs.
  *
  * Tables. A link record is CAPSTAN_LINK_SLOTS numbers: target start, target end, number of its first parameter, count of its
@@ -19,15 +21,16 @@
  * 1 a token, and 2 a quoted string, whose span lies inside the quotes with its backslashes still there. The room is the count of slots
  * divided by 4 or by 5, rounded down. No header has more than 2,731 links, nor more than 4,095 parameters.
  *
- * Numbers. Each answer begins with one; the other numbers of a refusal are 0, except the place with CAPSTAN_MALFORMED, and a refusal
- * leaves every slot and octet lent as it was. After success, slots and octets past those used hold what they held.
+ * Numbers. Each answer but capstan_start's begins with one; the other numbers of a refusal are 0, except the place with
+ * CAPSTAN_MALFORMED and the next state of a feed, and a refusal leaves every slot and octet lent as it was. After success, slots and
+ * octets past those used hold what they held.
  *
- * The functions over a table take its text, its slots and its counts as capstan_read was given and answered them. They check all of
- * it: tables of any other making are used if they are good, and refused with CAPSTAN_BAD_TABLE if they are not. A table is good if the
- * counts fit the rooms; the first link's parameters begin at number 0, each later link's where the former's end, and the last ends at
- * the count; every span lies in the text, start at most end; targets, names and values are what the RFC's grammar derives for them and
- * the form is 0, 1 or 2; and no link has two parameters of one of the names `rel`, `anchor`, `media`, `title`, `title*` and `type`.
- * Spans may overlap or stand in any order.
+ * The functions over a table take its text, its slots and its counts as capstan_read or capstan_finish was given and answered them.
+ * They check all of it: tables of any other making are used if they are good, and refused with CAPSTAN_BAD_TABLE if they are not. A
+ * table is good if the counts fit the rooms; the first link's parameters begin at number 0, each later link's where the former's end,
+ * and the last ends at the count; every span lies in the text, start at most end; targets, names and values are what the RFC's grammar
+ * derives for them and the form is 0, 1 or 2; and no link has two parameters of one of the names `rel`, `anchor`, `media`, `title`,
+ * `title*` and `type`. Spans may overlap or stand in any order.
  */
 #ifndef CAPSTAN_H
 #define CAPSTAN_H
@@ -39,7 +42,7 @@
 extern "C" {
 #endif
 
-/* The most octets of a header, a text or a written form. */
+/* The most octets of a header, a text or a written form, and the least of a buffer that gathers a header. */
 #define CAPSTAN_LIMIT 8192
 
 /* The numbers of one link record, and of one parameter record. */
@@ -48,13 +51,13 @@ extern "C" {
 
 enum {
     CAPSTAN_DONE = 0,
-    CAPSTAN_TOO_LONG = 1,       /* the header, the text or the written form is over CAPSTAN_LIMIT octets */
-    CAPSTAN_MALFORMED = 2,      /* the grammar doesn't derive the header */
+    CAPSTAN_TOO_LONG = 1,       /* a header, all feeds, a text or a written form: over CAPSTAN_LIMIT octets */
+    CAPSTAN_MALFORMED = 2,      /* the grammar doesn't derive the header; at a feed, none that begins so */
     CAPSTAN_NO_LINK_ROOM = 3,   /* more links than room */
     CAPSTAN_NO_PARAM_ROOM = 4,  /* more kept parameters than room */
     CAPSTAN_BAD_TABLE = 5,      /* the table is not good */
     CAPSTAN_NO_RELATION = 6,    /* a link to be written has no `rel`, or one with no relations */
-    CAPSTAN_NO_OUTPUT_ROOM = 7, /* the output buffer is shorter than the result */
+    CAPSTAN_NO_OUTPUT_ROOM = 7, /* the output buffer is shorter than the result, or a gathering one than the limit */
     CAPSTAN_NO_SUCH_LINK = 8,   /* the link number is not below the count */
     CAPSTAN_NOT_FOUND = 9       /* no such parameter, or no link has the relation */
 };
@@ -78,6 +81,10 @@ typedef struct { size_t number, link; } capstan_search_answer;
 typedef struct { size_t number, source, start, end; } capstan_context_answer; /* source 1: text, 2: base; refused: 0, 0, 0 */
 typedef struct { size_t number, length; } capstan_length_answer;
 
+/* What a feeding remembers between calls. Its numbers are the library's: a caller hands it back as it got it. */
+typedef struct { size_t phase, total, place; } capstan_feeding;
+typedef struct { size_t number, place; capstan_feeding next; } capstan_feed_answer;
+
 /*
  * Reads a header, which is the field value without the field's name and colon, into the tables `links` and `params`.
  *
@@ -88,6 +95,38 @@ typedef struct { size_t number, length; } capstan_length_answer;
  */
 capstan_read_answer capstan_read(const uint8_t *header, size_t header_len, size_t *links, size_t link_slots, size_t *params,
                                  size_t param_slots);
+
+/*
+ * A header that arrives in parts: a start, a feed for each part, and the finish. A lent buffer of at least CAPSTAN_LIMIT octets gathers
+ * what was fed. State and buffer go from call to call as they were handed out: each feed is given the state that the call before
+ * answered, and the same buffer, which nobody else writes to meanwhile. Parts may have any length, also 0. No feed looks again at
+ * octets that were fed before it.
+ *
+ * With any other state or buffer a call still touches nothing but what it is lent, a buffer under CAPSTAN_LIMIT is refused first of
+ * all, a refusal changes nothing lent, and the answer is one of the numbers below.
+ */
+capstan_feeding capstan_start(void);
+
+/*
+ * Takes one part more. `next` is the state for the call behind this one, also after a refusal. What counts are the octets of all feeds
+ * so far, those of feeds refused with CAPSTAN_TOO_LONG or CAPSTAN_MALFORMED too.
+ *
+ * CAPSTAN_DONE: some well formed header begins with them, and they stand at the buffer's start; the octets behind them are as they
+ * were. CAPSTAN_TOO_LONG: they are over CAPSTAN_LIMIT; later feeds, also empty ones, and the finish answer so too. CAPSTAN_MALFORMED:
+ * no well formed header begins with them; the place is the one that capstan_read would answer, and stays. CAPSTAN_NO_OUTPUT_ROOM: the
+ * buffer is under CAPSTAN_LIMIT octets; the part doesn't count, and `next` is `state`. A refusal leaves the buffer as it was.
+ * Numbers, in order: CAPSTAN_NO_OUTPUT_ROOM, CAPSTAN_TOO_LONG, CAPSTAN_MALFORMED.
+ */
+capstan_feed_answer capstan_feed(capstan_feeding state, const uint8_t *part, size_t part_len, uint8_t *buffer, size_t buffer_len);
+
+/*
+ * Reads the octets of all feeds that count into the tables, and answers as capstan_read does of them, wherever the cuts fell. The text
+ * of such a table is the buffer's first octets, as many as were fed. State and buffer stay usable: asked again it answers the same, and
+ * feeds may go on.
+ * Numbers, in order: CAPSTAN_NO_OUTPUT_ROOM (the buffer is under CAPSTAN_LIMIT octets), and then those of capstan_read.
+ */
+capstan_read_answer capstan_finish(capstan_feeding state, const uint8_t *buffer, size_t buffer_len, size_t *links, size_t link_slots,
+                                   size_t *params, size_t param_slots);
 
 /*
  * Answers the lowest number of a link that has the relation. A link's relations are what stands between the spaces of its `rel` value;

@@ -8,8 +8,13 @@
 mod answers;
 mod symbols;
 
-pub use answers::{ContextAnswer, LengthAnswer, RawTable, ReadAnswer, SearchAnswer};
-use symbols::{capstan_context, capstan_read, capstan_search, capstan_value, capstan_write};
+pub use answers::{
+    ContextAnswer, FeedAnswer, FeedingState, LengthAnswer, RawTable, ReadAnswer, SearchAnswer,
+};
+use symbols::{
+    capstan_context, capstan_feed, capstan_finish, capstan_read, capstan_search, capstan_start,
+    capstan_value, capstan_write,
+};
 
 /// Reads a header into the slots lent.
 ///
@@ -27,6 +32,69 @@ pub fn read(header: &[u8], links: &mut [usize], params: &mut [usize]) -> ReadAns
         capstan_read(
             header.as_ptr(),
             header.len(),
+            links.as_mut_ptr(),
+            links.len(),
+            params.as_mut_ptr(),
+            params.len(),
+        )
+    }
+}
+
+/// The state that a feeding starts with.
+///
+/// ```
+/// assert_eq!(capstanbar::ffi::start().total, 0);
+/// ```
+pub fn start() -> FeedingState {
+    // SAFETY: nothing is lent.
+    unsafe { capstan_start() }
+}
+
+/// Takes one part more of a header, which the buffer gathers.
+///
+/// ```
+/// use capstanbar::ffi::{feed, start};
+///
+/// let mut buffer = [0; 8192];
+/// let answer = feed(start(), b"<a", &mut buffer);
+/// assert_eq!((answer.number, answer.next.total, &buffer[..3]), (0, 2, &b"<a\0"[..]));
+/// assert_eq!(feed(answer.next, b">", &mut [0; 8191]).number, 7);
+/// ```
+pub fn feed(state: FeedingState, part: &[u8], buffer: &mut [u8]) -> FeedAnswer {
+    // SAFETY: as in `read`; the buffer alone is lent for writing. Any numbers may stand in the state.
+    unsafe {
+        capstan_feed(
+            state,
+            part.as_ptr(),
+            part.len(),
+            buffer.as_mut_ptr(),
+            buffer.len(),
+        )
+    }
+}
+
+/// Reads what was fed into the slots lent.
+///
+/// ```
+/// use capstanbar::ffi::{feed, finish, start};
+///
+/// let (mut buffer, mut links) = ([0; 8192], [0; 4]);
+/// let state = feed(start(), b"<a", &mut buffer).next;
+/// let state = feed(state, b">", &mut buffer).next;
+/// assert_eq!((finish(state, &buffer, &mut links, &mut []).links, links), (1, [1, 2, 0, 0]));
+/// ```
+pub fn finish(
+    state: FeedingState,
+    buffer: &[u8],
+    links: &mut [usize],
+    params: &mut [usize],
+) -> ReadAnswer {
+    // SAFETY: as in `read`; both tables are lent for writing. Any numbers may stand in the state.
+    unsafe {
+        capstan_finish(
+            state,
+            buffer.as_ptr(),
+            buffer.len(),
             links.as_mut_ptr(),
             links.len(),
             params.as_mut_ptr(),

@@ -29,6 +29,21 @@
 //! # Ok::<(), capstanbar::Refusal>(())
 //! ```
 //!
+//! A header that arrives in parts is fed to a [`Feeding`] part by part, wherever it is cut:
+//!
+//! ```
+//! use capstanbar::{Feeding, LIMIT};
+//!
+//! let (mut links, mut params) = ([0; 4 * 16], [0; 5 * 64]);
+//! let mut buffer = [0; LIMIT];
+//! let mut feeding = Feeding::new(&mut buffer);
+//! feeding.feed(b"</packs/9>; rel=\"ne")?;
+//! feeding.feed(b"xt\"; title=Harbour")?;
+//! let table = feeding.table(&mut links, &mut params)?;
+//! assert_eq!(table.search(b"next")?.target(), b"/packs/9");
+//! # Ok::<(), capstanbar::Refusal>(())
+//! ```
+//!
 //! What can't be done is refused by a [`Refusal`]; a malformed header with the place where it went
 //! wrong. A refusal leaves everything lent as it was.
 //!
@@ -44,6 +59,7 @@
 #![deny(unsafe_code)]
 #![warn(missing_docs)]
 
+mod feeding;
 pub mod ffi;
 mod limits;
 mod link;
@@ -52,6 +68,7 @@ mod read;
 mod refusal;
 mod table;
 
+pub use feeding::Feeding;
 pub use limits::{LIMIT, LINK_SLOTS, PARAM_SLOTS};
 pub use link::{Link, Links};
 pub use param::{Form, Param, Params};

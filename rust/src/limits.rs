@@ -1,4 +1,5 @@
-/// The most octets that a header, a text or a written form may have.
+/// The most octets that a header, a text or a written form may have, and those of a buffer that
+/// gathers a header.
 ///
 /// ```
 /// use capstanbar::{read, Refusal, LIMIT};

@@ -1,4 +1,5 @@
-use crate::{ffi, Refusal};
+use crate::ffi::{self, ReadAnswer};
+use crate::Refusal;
 
 /// How many links and parameters a table holds.
 ///
@@ -14,6 +15,17 @@ pub struct Counts {
     pub links: usize,
     /// Parameters of all the links.
     pub params: usize,
+}
+
+impl Counts {
+    /// What reading answered: the counts, or the refusal.
+    pub(crate) fn check(answer: ReadAnswer) -> Result<Counts, Refusal> {
+        Refusal::check(answer.number, answer.place)?;
+        Ok(Counts {
+            links: answer.links,
+            params: answer.params,
+        })
+    }
 }
 
 /// Reads a field value into the slots lent, four a link and five a parameter, and answers how many
@@ -40,10 +52,5 @@ pub struct Counts {
 /// # Ok::<(), Refusal>(())
 /// ```
 pub fn read(header: &[u8], links: &mut [usize], params: &mut [usize]) -> Result<Counts, Refusal> {
-    let answer = ffi::read(header, links, params);
-    Refusal::check(answer.number, answer.place)?;
-    Ok(Counts {
-        links: answer.links,
-        params: answer.params,
-    })
+    Counts::check(ffi::read(header, links, params))
 }

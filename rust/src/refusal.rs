@@ -12,12 +12,15 @@ use core::fmt;
 #[derive(Clone, Copy, Debug, PartialEq, Eq, Hash)]
 #[non_exhaustive]
 pub enum Refusal {
-    /// The header, the text or the written form has over [`LIMIT`](crate::LIMIT) octets.
+    /// The header, all that was fed, the text or the written form has over
+    /// [`LIMIT`](crate::LIMIT) octets.
     TooLong,
-    /// The grammar doesn't derive the header.
+    /// The grammar doesn't derive the header; at a feed, it derives none that begins with what was
+    /// fed.
     Malformed {
         /// How many octets stand in the longest part of the header, from its beginning, that some
-        /// right header begins with. A header cut short has its own length here.
+        /// right header begins with. A header cut short has its own length here; a feed doesn't
+        /// refuse it.
         place: usize,
     },
     /// The header has more links than room was lent for.
@@ -28,7 +31,9 @@ pub enum Refusal {
     BadTable,
     /// A link to be written has no `rel`, or one with no relations.
     NoRelation,
-    /// The output buffer is shorter than the result.
+    /// The output buffer is shorter than the result. A feed or a finish in [`ffi`](crate::ffi)
+    /// answers its number if the gathering buffer is under [`LIMIT`](crate::LIMIT) octets;
+    /// [`Feeding`](crate::Feeding) has no such buffer.
     NoOutputRoom,
     /// The link number isn't below the count.
     NoSuchLink,

@@ -84,7 +84,13 @@ impl<'a> Table<'a> {
         }
     }
 
-    fn of(text: &'a [u8], links: &'a [usize], params: &'a [usize], counts: Counts) -> Table<'a> {
+    /// Whoever hands it out must know that it is good.
+    pub(crate) fn of(
+        text: &'a [u8],
+        links: &'a [usize],
+        params: &'a [usize],
+        counts: Counts,
+    ) -> Table<'a> {
         Table {
             raw: RawTable {
                 text,

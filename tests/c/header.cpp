@@ -8,10 +8,28 @@
 
 static_assert(sizeof(capstan_read_answer) == 4 * sizeof(std::size_t), "four numbers");
 static_assert(sizeof(capstan_context_answer) == 4 * sizeof(std::size_t), "four numbers");
+static_assert(sizeof(capstan_feed_answer) == 5 * sizeof(std::size_t), "two numbers and a state of three");
 
 static const std::uint8_t *octets(const std::string &s)
 {
     return reinterpret_cast<const std::uint8_t *>(s.data());
+}
+
+// The header in two parts: the finish answers as reading it whole did, and leaves the same records.
+static bool parts_hold(const std::string &header, const capstan_read_answer &whole, const std::vector<std::size_t> &links,
+                       const std::vector<std::size_t> &params)
+{
+    const std::size_t cut = header.size() / 2;
+    std::vector<std::uint8_t> buffer(CAPSTAN_LIMIT);
+    std::vector<std::size_t> own_links(links.size()), own_params(params.size());
+
+    const auto first = capstan_feed(capstan_start(), octets(header), cut, buffer.data(), buffer.size());
+    const auto second = capstan_feed(first.next, octets(header) + cut, header.size() - cut, buffer.data(), buffer.size());
+    const auto f = capstan_finish(second.next, buffer.data(), buffer.size(), own_links.data(), own_links.size(), own_params.data(),
+                                  own_params.size());
+    return first.number == CAPSTAN_DONE && second.number == CAPSTAN_DONE && f.number == CAPSTAN_DONE && f.links == whole.links
+        && f.params == whole.params && own_links == links && own_params == params
+        && std::memcmp(buffer.data(), header.data(), header.size()) == 0;
 }
 
 int main()
@@ -36,7 +54,8 @@ int main()
     const bool holds = r.number == CAPSTAN_DONE && r.links == 1 && r.params == 1 && s.number == CAPSTAN_DONE && s.link == 0
         && c.number == CAPSTAN_DONE && c.source == CAPSTAN_BASE && c.start == 0 && c.end == base.size() && v.number == CAPSTAN_DONE
         && v.length == relation.size() && std::memcmp(out.data(), relation.data(), v.length) == 0 && w.number == CAPSTAN_DONE
-        && w.length == form.size() && std::memcmp(written.data(), form.data(), w.length) == 0;
+        && w.length == form.size() && std::memcmp(written.data(), form.data(), w.length) == 0
+        && parts_hold(header, r, links, params);
     if (!holds)
         std::puts("header.cpp: an answer is not the one expected");
     return holds ? 0 : 1;

@@ -217,6 +217,148 @@ static void test_write(void)
     test_long_form();
 }
 
+/* What a feeding is given from call to call: its state, and the buffer with octets on both sides that aren't lent. */
+enum { GUARD = 64, GUARDED = GUARD + CAPSTAN_LIMIT + GUARD };
+static uint8_t guarded[GUARDED], guarded_before[GUARDED];
+static uint8_t *const buffer = guarded + GUARD;
+static capstan_feeding state;
+static size_t stored;
+
+static void start(void)
+{
+    for (size_t i = 0; i < GUARDED; i++) guarded[i] = (uint8_t)(i % 251);
+    state = capstan_start();
+    stored = 0;
+}
+
+/* A part that is taken stands behind those before it; nothing else changes. Without room the state stays, too. */
+static void feed(const uint8_t *part, size_t len, size_t buffer_len, size_t number, size_t place, const char *what)
+{
+    memcpy(guarded_before, guarded, GUARDED);
+    capstan_feed_answer f = capstan_feed(state, part, len, buffer, buffer_len);
+    expect(f.number == number && f.place == place, what);
+    if (number == CAPSTAN_DONE) {
+        memcpy(guarded_before + GUARD + stored, part, len);
+        stored += len;
+    }
+    expect(memcmp(guarded, guarded_before, GUARDED) == 0, what);
+    if (number == CAPSTAN_NO_OUTPUT_ROOM)
+        expect(memcmp(&f.next, &state, sizeof state) == 0, what);
+    state = f.next;
+}
+
+/* Asked twice; the records are those of reading the octets gathered, and a refusal puts none. */
+static void finish(size_t buffer_len, size_t link_slots, size_t param_slots, size_t number, size_t place, const char *what)
+{
+    capstan_read_answer whole = { number, place, 0, 0 };
+
+    fill();
+    if (number == CAPSTAN_DONE)
+        whole = capstan_read(buffer, stored, links, link_slots, params, param_slots);
+    keep();
+    memcpy(guarded_before, guarded, GUARDED);
+    for (int again = 0; again < 2; again++) {
+        fill();
+        capstan_read_answer r = capstan_finish(state, buffer, buffer_len, links, link_slots, params, param_slots);
+        expect(r.number == number && memcmp(&r, &whole, sizeof r) == 0, what);
+        expect_kept(0, 0, 0, what);
+        expect(memcmp(guarded, guarded_before, GUARDED) == 0, what);
+    }
+}
+
+static void test_room(void)
+{
+    start();
+    feed(octets("<a>;x=1"), 7, CAPSTAN_LIMIT - 1, CAPSTAN_NO_OUTPUT_ROOM, 0, "feed: 8,191 octets of room");
+    feed(octets("<a>;x=1"), 7, CAPSTAN_LIMIT, CAPSTAN_DONE, 0, "feed: just room enough");
+    feed(octets(";y=2"), 4, 0, CAPSTAN_NO_OUTPUT_ROOM, 0, "feed: no room");
+    feed(octets(""), 0, CAPSTAN_LIMIT, CAPSTAN_DONE, 0, "feed: nothing");
+    feed(octets(";y=2,<b>;z"), 10, CAPSTAN_LIMIT + GUARD, CAPSTAN_DONE, 0, "feed: more room than needed");
+    finish(CAPSTAN_LIMIT - 1, LINK_SLOTS, PARAM_SLOTS, CAPSTAN_NO_OUTPUT_ROOM, 0, "finish: a buffer of 8,191 octets");
+    finish(CAPSTAN_LIMIT, 2 * CAPSTAN_LINK_SLOTS - 1, PARAM_SLOTS, CAPSTAN_NO_LINK_ROOM, 0, "finish: one link");
+    finish(CAPSTAN_LIMIT, LINK_SLOTS, 3 * CAPSTAN_PARAM_SLOTS - 1, CAPSTAN_NO_PARAM_ROOM, 0, "finish: two parameters");
+    finish(CAPSTAN_LIMIT, 2 * CAPSTAN_LINK_SLOTS, 3 * CAPSTAN_PARAM_SLOTS, CAPSTAN_DONE, 0, "finish: just room enough");
+    finish(CAPSTAN_LIMIT + GUARD, LINK_SLOTS, PARAM_SLOTS, CAPSTAN_DONE, 0, "finish: more room than needed");
+}
+
+static void test_malformed(void)
+{
+    start();
+    feed(octets("<a>,<b>;t=\""), 11, CAPSTAN_LIMIT, CAPSTAN_DONE, 0, "feed: a quoted string begins");
+    finish(CAPSTAN_LIMIT, LINK_SLOTS, PARAM_SLOTS, CAPSTAN_MALFORMED, 11, "finish: cut short");
+    feed(octets(",\""), 2, CAPSTAN_LIMIT, CAPSTAN_DONE, 0, "feed: a quoted string ends");
+    finish(CAPSTAN_LIMIT, LINK_SLOTS, PARAM_SLOTS, CAPSTAN_DONE, 0, "finish: whole after all");
+    feed(octets(" ,<c> <d>"), 9, CAPSTAN_LIMIT, CAPSTAN_MALFORMED, 19, "feed: a link behind a link");
+    feed(octets(""), 0, CAPSTAN_LIMIT, CAPSTAN_MALFORMED, 19, "feed: nothing behind a fault");
+    feed(octets(","), 1, CAPSTAN_LIMIT - 1, CAPSTAN_NO_OUTPUT_ROOM, 0, "feed: a fault, and no room");
+    finish(CAPSTAN_LIMIT, 0, 0, CAPSTAN_MALFORMED, 19, "finish: a fault");
+    feed(long_text, CAPSTAN_LIMIT - 22, CAPSTAN_LIMIT, CAPSTAN_MALFORMED, 19, "feed: 8,192 octets with a fault");
+    feed(octets(","), 1, CAPSTAN_LIMIT, CAPSTAN_TOO_LONG, 0, "feed: 8,193 octets with a fault");
+    finish(CAPSTAN_LIMIT, LINK_SLOTS, PARAM_SLOTS, CAPSTAN_TOO_LONG, 0, "finish: 8,193 octets with a fault");
+}
+
+static void test_too_long(void)
+{
+    start();
+    feed(long_text, CAPSTAN_LIMIT, CAPSTAN_LIMIT, CAPSTAN_DONE, 0, "feed: 8,192 commas");
+    finish(CAPSTAN_LIMIT, 0, 0, CAPSTAN_DONE, 0, "finish: 8,192 commas");
+    feed(octets(","), 1, CAPSTAN_LIMIT - 1, CAPSTAN_NO_OUTPUT_ROOM, 0, "feed: an octet too many, and no room");
+    feed(octets(""), 0, CAPSTAN_LIMIT, CAPSTAN_DONE, 0, "feed: nothing behind 8,192 commas");
+    feed(octets("a"), 1, CAPSTAN_LIMIT, CAPSTAN_TOO_LONG, 0, "feed: an octet too many, and wrong");
+    feed(octets(""), 0, CAPSTAN_LIMIT, CAPSTAN_TOO_LONG, 0, "feed: nothing behind too many");
+    feed(octets(""), 0, CAPSTAN_LIMIT - 1, CAPSTAN_NO_OUTPUT_ROOM, 0, "feed: too many, and no room");
+    finish(CAPSTAN_LIMIT, LINK_SLOTS, PARAM_SLOTS, CAPSTAN_TOO_LONG, 0, "finish: 8,193 octets");
+    finish(0, LINK_SLOTS, PARAM_SLOTS, CAPSTAN_NO_OUTPUT_ROOM, 0, "finish: 8,193 octets, and no buffer");
+    start();
+    feed(long_text, CAPSTAN_LIMIT + 1, CAPSTAN_LIMIT + GUARD, CAPSTAN_TOO_LONG, 0, "feed: 8,193 commas at once");
+}
+
+/* With a state of any numbers the answer is a number of the entry, a refusal changes nothing, and what isn't lent stays as it was. */
+static void wild_feed(size_t buffer_len)
+{
+    memcpy(guarded_before, guarded, GUARDED);
+    capstan_feed_answer f = capstan_feed(state, octets(",<c>;z"), 6, buffer, buffer_len);
+    expect(f.number <= CAPSTAN_MALFORMED || f.number == CAPSTAN_NO_OUTPUT_ROOM, "feed: a wild state");
+    if (f.number == CAPSTAN_NO_OUTPUT_ROOM)
+        expect(memcmp(&f.next, &state, sizeof state) == 0, "feed: a wild state, and no room");
+    if (f.number == CAPSTAN_DONE)
+        memcpy(guarded_before + GUARD, buffer, buffer_len);
+    expect(memcmp(guarded, guarded_before, GUARDED) == 0, "feed: a wild state");
+}
+
+static void wild_finish(size_t buffer_len)
+{
+    enum { LENT_LINKS = 2 * CAPSTAN_LINK_SLOTS, LENT_PARAMS = 2 * CAPSTAN_PARAM_SLOTS };
+
+    fill();
+    keep();
+    memcpy(guarded_before, guarded, GUARDED);
+    capstan_read_answer r = capstan_finish(state, buffer, buffer_len, links, LENT_LINKS, params, LENT_PARAMS);
+    int done = r.number == CAPSTAN_DONE;
+    expect(r.number <= CAPSTAN_NO_PARAM_ROOM || r.number == CAPSTAN_NO_OUTPUT_ROOM, "finish: a wild state");
+    expect_kept(done ? LENT_LINKS : 0, done ? LENT_PARAMS : 0, 0, "finish: a wild state");
+    expect(memcmp(guarded, guarded_before, GUARDED) == 0, "finish: a wild state");
+}
+
+static void test_wild_states(void)
+{
+    static const size_t wild[] = { 0, 1, 7, CAPSTAN_LIMIT - 1, CAPSTAN_LIMIT, CAPSTAN_LIMIT + 1, SIZE_MAX - 1, SIZE_MAX };
+    enum { WILD = sizeof wild / sizeof *wild, PHASES = 64 };
+
+    for (size_t i = 0; i < (PHASES + WILD) * WILD * WILD; i++) {
+        start();
+        memcpy(buffer, header, HEADER_LEN);
+        size_t phase = i / (WILD * WILD);
+        state.phase = phase < PHASES ? phase : wild[phase - PHASES];
+        state.total = wild[i / WILD % WILD];
+        state.place = wild[i % WILD];
+        wild_finish(CAPSTAN_LIMIT);
+        wild_finish(CAPSTAN_LIMIT - 1);
+        wild_feed(CAPSTAN_LIMIT - 1);
+        wild_feed(CAPSTAN_LIMIT);
+    }
+}
+
 int main(void)
 {
     test_read();
@@ -224,5 +366,9 @@ int main(void)
     test_context();
     test_value();
     test_write();
+    test_room();
+    test_malformed();
+    test_too_long();
+    test_wild_states();
     return failures != 0;
 }

@@ -11,7 +11,8 @@
 #[repr(C)]
 #[derive(Clone, Copy, Debug, PartialEq, Eq)]
 pub struct ReadAnswer {
-    /// 0 done, 1 too long, 2 malformed, 3 no link room, 4 no parameter room.
+    /// 0 done, 1 too long, 2 malformed, 3 no link room, 4 no parameter room; of a finish also 7, its
+    /// buffer is under [`LIMIT`](crate::LIMIT) octets.
     pub number: usize,
     /// Where a malformed header went wrong, else 0.
     pub place: usize,
@@ -19,6 +20,46 @@ pub struct ReadAnswer {
     pub links: usize,
     /// The count of kept parameters, 0 if refused.
     pub params: usize,
+}
+
+/// What a feeding remembers between calls. Its numbers are the library's: with other ones no call
+/// touches anything but what it is lent, and a refusal still changes nothing.
+///
+/// ```
+/// use capstanbar::ffi::{start, FeedingState};
+///
+/// assert_eq!(start(), FeedingState { phase: 0, total: 0, place: 0 });
+/// ```
+#[repr(C)]
+#[derive(Clone, Copy, Debug, PartialEq, Eq)]
+pub struct FeedingState {
+    /// The phase of reading behind the octets gathered.
+    pub phase: usize,
+    /// How many octets were fed, and one past the limit where they are over it.
+    pub total: usize,
+    /// Within the limit, how many of them begin some well formed header.
+    pub place: usize,
+}
+
+/// What a feed answers.
+///
+/// ```
+/// use capstanbar::ffi::{feed, start};
+///
+/// let mut buffer = [0; 8192];
+/// let answer = feed(start(), b"<a> <", &mut buffer);
+/// assert_eq!((answer.number, answer.place), (2, 4));
+/// assert_eq!(feed(answer.next, b"", &mut buffer), answer);
+/// ```
+#[repr(C)]
+#[derive(Clone, Copy, Debug, PartialEq, Eq)]
+pub struct FeedAnswer {
+    /// 0 done, 1 too long, 2 malformed, 7 the buffer is under [`LIMIT`](crate::LIMIT) octets.
+    pub number: usize,
+    /// Where malformed octets went wrong, else 0.
+    pub place: usize,
+    /// The state for the next call.
+    pub next: FeedingState,
 }
 
 /// What searching answers.

@@ -1,11 +1,28 @@
 //! The C functions, as `include/capstan.h` declares them.
 
-use super::{ContextAnswer, LengthAnswer, ReadAnswer, SearchAnswer};
+use super::{ContextAnswer, FeedAnswer, FeedingState, LengthAnswer, ReadAnswer, SearchAnswer};
 
 extern "C" {
     pub fn capstan_read(
         header: *const u8,
         header_len: usize,
+        links: *mut usize,
+        link_slots: usize,
+        params: *mut usize,
+        param_slots: usize,
+    ) -> ReadAnswer;
+    pub fn capstan_start() -> FeedingState;
+    pub fn capstan_feed(
+        state: FeedingState,
+        part: *const u8,
+        part_len: usize,
+        buffer: *mut u8,
+        buffer_len: usize,
+    ) -> FeedAnswer;
+    pub fn capstan_finish(
+        state: FeedingState,
+        buffer: *const u8,
+        buffer_len: usize,
         links: *mut usize,
         link_slots: usize,
         params: *mut usize,
