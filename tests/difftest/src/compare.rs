@@ -2,10 +2,16 @@
 
 mod asked;
 mod equal;
+mod feed;
+mod frame;
 mod read;
+mod reading;
 
 use crate::shown::Difference;
 pub use asked::Asked;
+pub use feed::{Expected, Fed};
+pub use frame::{feed_any, finish_any};
 pub use read::read;
+pub use reading::Reading;
 
 pub type Compared<T> = Result<T, Difference>;

@@ -3,6 +3,7 @@
 mod bad;
 mod damaged;
 mod edges;
+mod feeds;
 mod joins;
 mod made;
 mod octets;
@@ -23,7 +24,8 @@ pub fn fixed(run: &mut Run, deep: bool) -> Compared<()> {
     short::compare(run, deep)?;
     octets::compare(run)?;
     stored::compare(run)?;
-    edges::compare(run)
+    edges::compare(run)?;
+    feeds::fixed(run, deep)
 }
 
 /// The cases of a seed.
@@ -34,14 +36,19 @@ pub fn seeded(run: &mut Run) -> Compared<()> {
     joins::compare(run)?;
     made::compare(run)?;
     bad::compare(run)?;
-    wild::compare(run)
+    wild::compare(run)?;
+    feeds::seeded(run)
+}
+
+/// Link and parameter slots for whatever a header of this length may hold.
+fn ample(length: usize) -> [usize; 2] {
+    [4 * ((length + 1) / 3), 5 * (length / 2)]
 }
 
 /// Reads in room for whatever a header of this length may hold.
 fn read_amply(run: &mut Run, header: &[u8]) -> Compared<(ReadAnswer, Tables)> {
-    let links = (header.len() + 1) / 3;
-    let params = header.len() / 2;
-    read(run, header, 4 * links, 5 * params)
+    let [link_slots, param_slots] = ample(header.len());
+    read(run, header, link_slots, param_slots)
 }
 
 /// Reads in ample room, and asks what was read.

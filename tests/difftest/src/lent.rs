@@ -47,6 +47,26 @@ impl<T: Pattern> Lent<T> {
         lent
     }
 
+    /// Holds another pattern in its first places.
+    pub fn refill(&mut self, count: usize, salt: u64) {
+        for place in GUARD..GUARD + count {
+            self.held[place] = T::held(place, salt);
+            self.all[place] = self.held[place];
+        }
+    }
+
+    /// From here on the content counts as what it held from that place on.
+    pub fn keep(&mut self, place: usize, content: &[T]) {
+        let start = GUARD + place;
+        self.held[start..start + content.len()].copy_from_slice(content);
+    }
+
+    /// From here on whatever stands in its first places counts as what it held.
+    pub fn keep_first(&mut self, count: usize) {
+        let end = GUARD + count;
+        self.held[GUARD..end].copy_from_slice(&self.all[GUARD..end]);
+    }
+
     pub fn room(&self) -> &[T] {
         &self.all[GUARD..self.all.len() - GUARD]
     }

@@ -5,14 +5,18 @@ use std::fmt::Write;
 #[derive(Clone, Copy)]
 pub enum Entry {
     Read,
+    Feed,
+    Finish,
     Search,
     Context,
     Value,
     Write,
 }
 
-const ENTRIES: [(Entry, &str, &[usize]); 5] = [
+const ENTRIES: [(Entry, &str, &[usize]); 7] = [
     (Entry::Read, "read", &[0, 1, 2, 3, 4]),
+    (Entry::Feed, "feed", &[0, 1, 2, 7]),
+    (Entry::Finish, "finish", &[0, 1, 2, 3, 4, 7]),
     (Entry::Search, "search", &[0, 1, 5, 9]),
     (Entry::Context, "context", &[0, 1, 5, 8]),
     (Entry::Value, "value", &[0, 1, 5, 7, 8, 9]),

@@ -4,7 +4,8 @@
 //! way: the grammar is a value (`grammar`), what it derives is asked by sets
 //! of places (`sets`), the malformed place by the cuts that can still be
 //! completed (`prefix`), and the records come from a derivation found so
-//! (`derivation`, `reading`). All else follows the rules' definitions word by
+//! (`derivation`, `reading`). A header in parts is judged as the octets that
+//! came so far (`feeding`). All else follows the rules' definitions word by
 //! word. Clarity comes before speed.
 //!
 //! Tables are lent as slots of plain numbers, and every answer begins with
@@ -12,6 +13,7 @@
 
 mod context;
 mod derivation;
+mod feeding;
 mod grammar;
 mod kept;
 mod listing;
@@ -31,6 +33,7 @@ mod vectors;
 mod write;
 
 pub use context::context;
+pub use feeding::Feeding;
 pub use listing::listing;
 pub use meaning::{meanings, LinkMeaning, ParamMeaning};
 pub use read::{read, ReadAnswer};

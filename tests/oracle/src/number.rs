@@ -2,9 +2,9 @@
 
 /// Done.
 pub const DONE: usize = 0;
-/// Header, text or written form over [`LIMIT`] octets.
+/// Header, all feeds, text or written form over [`LIMIT`] octets.
 pub const TOO_LONG: usize = 1;
-/// The grammar doesn't derive the header.
+/// The grammar doesn't derive the header, or none that begins so.
 pub const MALFORMED: usize = 2;
 /// More links than room.
 pub const NO_LINK_ROOM: usize = 3;
@@ -14,12 +14,14 @@ pub const NO_PARAM_ROOM: usize = 4;
 pub const BAD_TABLE: usize = 5;
 /// A link to be written has no `rel`, or one with no relations.
 pub const NO_RELATION: usize = 6;
-/// The output buffer is shorter than the result.
+/// The output buffer is shorter than the result, or a gathering one than
+/// [`LIMIT`].
 pub const NO_OUTPUT_ROOM: usize = 7;
 /// The link number isn't below the count.
 pub const NO_SUCH_LINK: usize = 8;
 /// No such parameter, or no link has the relation.
 pub const NOT_FOUND: usize = 9;
 
-/// The most octets that a header, a text or a written form may have.
+/// The most octets that a header, a text or a written form may have, and the
+/// least of a buffer that gathers a header.
 pub const LIMIT: usize = 8192;

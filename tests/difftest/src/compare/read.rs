@@ -25,7 +25,7 @@ pub fn read(
     let lent = Lent::holding(header, salt);
     let mut links = Lent::new(link_slots, salt);
     let mut params = Lent::new(param_slots, salt);
-    let answer = by_library(lent.room(), links.room_mut(), params.room_mut());
+    let answer = of_library(ffi::read(lent.room(), links.room_mut(), params.room_mut()));
     run.reached.count(Entry::Read, answer.number);
 
     let (mut expected_links, mut expected_params) = (vec![0; link_slots], vec![0; param_slots]);
@@ -54,8 +54,8 @@ pub fn read(
     Ok((answer, tables))
 }
 
-fn by_library(header: &[u8], links: &mut [usize], params: &mut [usize]) -> ReadAnswer {
-    let answer = ffi::read(header, links, params);
+/// The library's answer as the reference would give it.
+pub fn of_library(answer: ffi::ReadAnswer) -> ReadAnswer {
     ReadAnswer {
         number: answer.number,
         place: answer.place,

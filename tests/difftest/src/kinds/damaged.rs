@@ -11,20 +11,31 @@ const CASES: usize = 10000;
 
 pub fn compare(run: &mut Run) -> Compared<()> {
     run.begin("damaged");
-    let stored: Vec<&[u8]> = stored::headers()
-        .filter(|header| header.len() < 100)
-        .collect();
+    let stored = short_stored();
     for _ in 0..CASES {
-        let mut header = match run.numbers.once_in(4) {
-            true => run.numbers.of(&stored).to_vec(),
-            false => derive(&mut run.numbers, SHORT).header,
-        };
-        for _ in 0..=run.numbers.small(3) {
-            damage(&mut run.numbers, &mut header);
-        }
+        let header = damaged(&mut run.numbers, &stored);
         read_and_ask(run, &header)?;
     }
     Ok(())
+}
+
+/// Stored headers that aren't long.
+pub fn short_stored() -> Vec<&'static [u8]> {
+    stored::headers()
+        .filter(|header| header.len() < 100)
+        .collect()
+}
+
+/// A stored or a derived header with some damage.
+pub fn damaged(numbers: &mut Numbers, stored: &[&[u8]]) -> Vec<u8> {
+    let mut header = match numbers.once_in(4) {
+        true => numbers.of(stored).to_vec(),
+        false => derive(numbers, SHORT).header,
+    };
+    for _ in 0..=numbers.small(3) {
+        damage(numbers, &mut header);
+    }
+    header
 }
 
 fn damage(numbers: &mut Numbers, header: &mut Vec<u8>) {

@@ -22,7 +22,7 @@ pub fn compare(run: &mut Run) -> Compared<()> {
 }
 
 /// Just the slots, a slot fewer, a record fewer, nearly a record more, a record more.
-fn round(slots: usize, record: usize) -> [usize; 5] {
+pub fn round(slots: usize, record: usize) -> [usize; 5] {
     [
         slots,
         slots.saturating_sub(1),

@@ -4,10 +4,10 @@ use super::read_and_ask;
 use crate::compare::Compared;
 use crate::run::Run;
 
-const DELIMITERS: &[u8] = b"<>;,=\"\\ a%";
+pub const DELIMITERS: &[u8] = b"<>;,=\"\\ a%";
 
 /// What stands before, and how many octets follow at most.
-const BEFORE: [(&[u8], usize); 7] = [
+pub const BEFORE: [(&[u8], usize); 7] = [
     (b"", 5),
     (b"<", 3),
     (b"<%", 3),

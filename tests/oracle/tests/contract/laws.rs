@@ -2,7 +2,7 @@
 
 use crate::{read_amply, read_in, Tables};
 use oracle::number::MALFORMED;
-use oracle::ReadAnswer;
+use oracle::{Feeding, ReadAnswer};
 
 /// A fixed run of numbers that look random.
 struct Numbers(u64);
@@ -96,6 +96,22 @@ fn the_place_is_the_longest_prefix_that_begins_a_header() {
         assert!(begins_a_header(&header[..place]), "{header:?}");
         let longer = header.get(..place + 1);
         assert!(!longer.is_some_and(begins_a_header), "{header:?}");
+    }
+}
+
+#[test]
+fn a_feed_is_done_exactly_if_its_octets_begin_a_header() {
+    let mut numbers = Numbers(4);
+    let mut buffer = vec![0; 8192];
+    for _ in 0..1000 {
+        let header = numbers.header();
+        let cut = numbers.below(header.len() + 1);
+        let mut feeding = Feeding::default();
+        for (part, fed) in [(&header[..cut], cut), (&header[cut..], header.len())] {
+            let (number, _) = feeding.feed(part, &mut buffer);
+            let begins = begins_a_header(&header[..fed]);
+            assert_eq!(number, if begins { 0 } else { MALFORMED }, "{header:?}");
+        }
     }
 }
 

@@ -1,0 +1,60 @@
+//! Every octet as a part by itself, behind each beginning of a header after which other octets may
+//! follow, and then one octet more.
+
+use super::beginnings::Beginnings;
+use crate::compare::{Compared, Fed};
+use crate::kinds::short::DELIMITERS;
+use crate::run::Run;
+use oracle::number::LIMIT;
+
+const BEFORE: [&[u8]; 20] = [
+    b"",
+    b" ",
+    b",",
+    b"<",
+    b"<a",
+    b"<%",
+    b"<%4",
+    b"<>",
+    b"<> ",
+    b"<>;",
+    b"<>; ",
+    b"<>;x",
+    b"<>;x ",
+    b"<>;x=",
+    b"<>;x= ",
+    b"<>;x=y",
+    b"<>;x=y ",
+    b"<>;x=\"",
+    b"<>;x=\"\\",
+    b"<>;x=\"\"",
+];
+
+pub fn compare(run: &mut Run) -> Compared<()> {
+    run.begin("feed octets");
+    let mut fed = Fed::new(run, LIMIT);
+    for before in BEFORE {
+        let mut header = Beginnings::of(before.to_vec());
+        for octet in 0..=255 {
+            header.push(octet);
+            follow(run, &mut fed, &mut header)?;
+            header.pop();
+        }
+    }
+    Ok(())
+}
+
+/// The last octet alone and, if it isn't refused, with each delimiter behind it.
+fn follow(run: &mut Run, fed: &mut Fed, header: &mut Beginnings) -> Compared<()> {
+    let end = header.len();
+    header.feed(run, fed, &[end - 1, end])?;
+    if header.judged(end).0 != 0 {
+        return Ok(());
+    }
+    for &octet in DELIMITERS {
+        header.push(octet);
+        header.feed(run, fed, &[end - 1, end, end + 1])?;
+        header.pop();
+    }
+    Ok(())
+}
