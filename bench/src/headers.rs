@@ -29,6 +29,15 @@ pub fn samples() -> Vec<Sample> {
     ]
 }
 
+/// The headers that are read: one alone under each name, or many in turn.
+pub fn to_read() -> Vec<(&'static str, Vec<Vec<u8>>)> {
+    let alone = |sample: Sample| (sample.name, vec![sample.header]);
+    let mut all: Vec<_> = samples().into_iter().map(alone).collect();
+    all.push(("malformed", vec![malformed()]));
+    all.push(("paginated, 500 different in turn", different()));
+    all
+}
+
 /// Four links, as a listing that comes in packs has.
 fn paginated(target: &str, last: u32) -> Vec<u8> {
     let page = |number: u32, relation: &str| {
@@ -75,15 +84,24 @@ fn many_params() -> Vec<u8> {
 }
 
 /// Links, the last of which is broken off in its value.
-pub fn malformed() -> Vec<u8> {
+fn malformed() -> Vec<u8> {
     let pages = paginated("https://api.example.org/v2/catalogue/18/items", 1997);
     let mut header = [&pages[..], &pages, &pages].join(&b", "[..]);
     header.pop();
     header
 }
 
+/// Links as in the one that is broken off, but a target in the middle has a blank.
+pub fn wrong_midway() -> Vec<u8> {
+    let mut header = malformed();
+    let middle = header.len() / 2;
+    let target = header[middle..].iter().position(|&octet| octet == b'<');
+    header[middle + target.expect("a link begins") + 1] = b' ';
+    header
+}
+
 /// Paginated headers that differ, so that a processor can't learn how the next one goes.
-pub fn different() -> Vec<Vec<u8>> {
+fn different() -> Vec<Vec<u8>> {
     const WORDS: [&str; 8] = [
         "api",
         "Users",

@@ -1,7 +1,17 @@
 //! The library's entries, by the crate over its C interface, and the table loop.
 
-use capstanbar::ffi::{self, RawTable, ReadAnswer};
+use capstanbar::ffi::{self, FeedingState, RawTable, ReadAnswer};
 use std::hint::black_box;
+
+pub const LIMIT: usize = capstanbar::LIMIT;
+
+const LINK_SLOTS: usize = 4 * 256;
+const PARAM_SLOTS: usize = 5 * 1024;
+
+/// Slots for links and for parameters, enough for each header here.
+pub fn slots() -> (Vec<usize>, Vec<usize>) {
+    (vec![0; LINK_SLOTS], vec![0; PARAM_SLOTS])
+}
 
 /// A text with its tables.
 pub struct Table {
@@ -26,6 +36,24 @@ impl Table {
 
 pub fn read(header: &[u8], links: &mut [usize], params: &mut [usize]) -> ReadAnswer {
     ffi::read(black_box(header), links, params)
+}
+
+/// Starts, feeds the header in parts of that many octets, and answers the state behind them.
+pub fn feed(header: &[u8], size: usize, buffer: &mut [u8]) -> FeedingState {
+    let mut state = ffi::start();
+    for part in black_box(header).chunks(size) {
+        state = ffi::feed(state, part, buffer).next;
+    }
+    state
+}
+
+pub fn finish(
+    state: FeedingState,
+    buffer: &[u8],
+    links: &mut [usize],
+    params: &mut [usize],
+) -> ReadAnswer {
+    ffi::finish(state, black_box(buffer), links, params)
 }
 
 /// The number, and the link found.

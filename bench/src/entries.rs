@@ -1,0 +1,118 @@
+//! Each entry, beside the table loop and the independent reader.
+
+use crate::clock::{least, Contender};
+use crate::headers::{samples, to_read, Sample};
+use crate::library::{Table, LIMIT};
+use crate::{comparing, contenders, independent, library};
+use std::hint::black_box;
+use std::slice::from_ref;
+
+pub fn print() {
+    println!("| Entry | Header | Octets | ns | Octets per ns | Times the table loop | Independent reader, times this |");
+    println!("|---|---|---:|---:|---:|---:|---:|");
+    to_read()
+        .iter()
+        .for_each(|(name, headers)| read(name, headers));
+    let samples = samples();
+    let tables: Vec<Table> = samples.iter().map(table_of).collect();
+    let asked = || samples.iter().zip(&tables);
+    asked().for_each(|(sample, table)| search(sample, table));
+    asked().for_each(|(sample, table)| value(sample, table));
+    asked().for_each(|(sample, table)| write(sample.name, table));
+    write("60 links that share spans", &shared_spans());
+}
+
+/// A header read into tables.
+fn table_of(sample: &Sample) -> Table {
+    let reading = comparing::reading(sample.name, &sample.header);
+    assert_eq!(reading.answer.number, 0);
+    let (links, params) = reading.slots;
+    Table {
+        text: sample.header.clone(),
+        links,
+        params,
+        link_count: reading.answer.links,
+        param_count: reading.answer.params,
+    }
+}
+
+/// A table that no header was read into.
+fn shared_spans() -> Table {
+    let text = br#"/shelf?volume=12 rel next title A \"long\" one, quoted"#.to_vec();
+    let (mut links, mut params) = (vec![], vec![]);
+    for number in 0..60 {
+        links.extend([0, 16, 2 * number, 2]);
+        params.extend([17, 20, 21, 25, 1, 26, 31, 32, text.len(), 2]);
+    }
+    Table {
+        text,
+        links,
+        params,
+        link_count: 60,
+        param_count: 120,
+    }
+}
+
+/// Measures and prints one line: the entry, the table loop over the texts, the independent reader. All figures are for one text.
+fn line<T>(
+    entry: &str,
+    name: &str,
+    texts: &[Vec<u8>],
+    this: Contender,
+    independent: impl FnMut() -> T,
+) {
+    let table = contenders::table_loop(texts);
+    let [this, table, independent] = least([this, table, Contender::new(independent)]);
+    let octets = texts.iter().map(|text| text.len()).sum::<usize>() / texts.len();
+    let each = this / texts.len() as f64;
+    let rate = octets as f64 / each;
+    let (to_table, to_independent) = (this / table, independent / this);
+    println!("| {entry} | {name} | {octets} | {each:.0} | {rate:.2} | {to_table:.2} | {to_independent:.0} |");
+}
+
+fn read(name: &str, headers: &[Vec<u8>]) {
+    for header in headers {
+        comparing::reading(name, header);
+    }
+    let (mut links, mut params) = library::slots();
+    let other = || {
+        for header in headers {
+            black_box(oracle::read(header, &mut links, &mut params));
+        }
+    };
+    line("read", name, headers, contenders::read(headers), other);
+}
+
+fn search(sample: &Sample, t: &Table) {
+    let query = sample.relation;
+    let this = library::search(t, query);
+    assert_eq!(this, (0, t.link_count - 1), "{}", sample.name);
+    assert_eq!(this, independent::search(t, query), "{}", sample.name);
+    let this = Contender::new(|| library::search(t, query));
+    let other = || independent::search(t, query);
+    line("search", sample.name, from_ref(&t.text), this, other);
+}
+
+fn value(sample: &Sample, t: &Table) {
+    let (link, place) = sample.value;
+    let (mut out, mut out2) = ([0; LIMIT], [0; LIMIT]);
+    let this = library::value(t, link, place, &mut out);
+    let other = independent::value(t, link, place, &mut out2);
+    assert_eq!((this, out), (other, out2), "{}", sample.name);
+    let this = Contender::new(|| library::value(t, link, place, &mut out));
+    let other = || independent::value(t, link, place, &mut out2);
+    line("value", sample.name, from_ref(&t.text), this, other);
+}
+
+/// The octets are those written.
+fn write(name: &str, t: &Table) {
+    let (mut out, mut out2) = ([0; LIMIT], [0; LIMIT]);
+    let this = library::write(t, &mut out);
+    let other = independent::write(t, &mut out2);
+    assert_eq!((this, out), (other, out2), "{name}");
+    assert_eq!(this.0, 0, "{name}");
+    let written = out[..this.1].to_vec();
+    let this = Contender::new(|| library::write(t, &mut out));
+    let other = || independent::write(t, &mut out2);
+    line("write", name, from_ref(&written), this, other);
+}
