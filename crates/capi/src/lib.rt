@@ -6,6 +6,8 @@ ghost use Rattle.answers.specs.Length.{lengthOut};
 ghost use Rattle.answers.specs.Read.{readOut};
 ghost use Rattle.answers.specs.Search.{searchOut};
 ghost use Rattle.capi.specs.ContextTold.{ContextTold};
+ghost use Rattle.grammar.specs.Kept.{codeOf};
+ghost use Rattle.octets.specs.Fold.{folded};
 ghost use Rattle.outcomes.specs.Copy.{Copy};
 ghost use Rattle.outcomes.specs.Feeding.{start, Feeds, Finishes};
 ghost use Rattle.outcomes.specs.Read.{Read};
@@ -153,4 +155,12 @@ pub extern "C" fn capstan_finish(
         (readOut r (now (links .exit)) (now (params .exit))) ⌝ }
 {
     feeding::finish(state, buffer, links, params).numbers()
+}
+
+// Tells the code of a parameter's name.
+#[no_mangle]
+pub extern "C" fn capstan_name_code(name: &[u8]) -> usize
+    ensures { λ r. ⌜ r ≡ codeOf (folded (now (name .entry))) ⌝ }
+{
+    names::code_of(name) as usize
 }

@@ -3,11 +3,13 @@ use Prim.Native.Nat.{ℕ}
 use mathlib.Core.Path.{_≡_, refl, sym, ap, subst, _∙_}
 use mathlib.Core.Bool.{Bool, true, false, _&&_, _||_, true≢false}
 use mathlib.Core.List.{List, [], _∷_}
+use Rattle.octets.specs.Text.{octets}
 use Rattle.octets.specs.Fold.{same}
 use Rattle.octets.proofs.Laws.{same-sound, same-refl, same-false}
 use Rattle.grammar.specs.Link.{Param}
-use Rattle.grammar.specs.Kept.{nameOf, among, isOnce, unless, keepAfter}
+use Rattle.grammar.specs.Kept.{nameOf, among, codeOf, isOnce, unless, keepAfter}
 use Rattle.grammar.specs.Laws.{ofName, firstOnly, Keeps}
+use Rattle.grammar.proofs.Codes.{once-six}
 
 module _ (s n : List ℕ) where
   this-name : (p : Param) (ps : List Param) → same (nameOf s p) n ≡ true → ofName s n (p ∷ ps) ≡ p ∷ ofName s n ps
@@ -58,7 +60,7 @@ module _ (s n : List ℕ) where
           ∙ ap (λ (x : List Param). p ∷ x) h ∙ sym (this-name p ps e)
       go false e h = skipped p earlier rest e ∙ h ∙ sym (other-name p ps e)
 
-  -- one of the six names, which stood before: none more is kept
+  -- a name kept once, which stood before: none more is kept
   none-after : (earlier : List (List ℕ)) (ps : List Param) → isOnce n ≡ true → among earlier n ≡ true
       → ofName s n (keepAfter s earlier ps) ≡ []
   none-after earlier [] o a = refl
@@ -76,7 +78,7 @@ module _ (s n : List ℕ) where
       go true e h = dropped p earlier rest e (rw (o, a)) ∙ h
       go false e h = skipped p earlier rest e ∙ h
 
-  -- one of the six names, which did not: the first is kept
+  -- a name kept once, which did not: the first is kept
   first-one : (earlier : List (List ℕ)) (ps : List Param) → isOnce n ≡ true → among earlier n ≡ false
       → ofName s n (keepAfter s earlier ps) ≡ firstOnly (ofName s n ps)
   first-one earlier [] o a = refl
@@ -100,17 +102,12 @@ module _ (s n : List ℕ) where
           skipped p earlier rest e ∙ first (rw (turned (nameOf s p) e, a)) ∙ ap firstOnly (sym (other-name p ps e))
 
 pub keeps : Keeps
-unfolding isOnce
+unfolding codeOf isOnce
 keeps =
     record {
       once = λ s n ps o. first-one s n [] ps o refl;
       each-time = λ s n ps o. each s n [] ps o;
-      rel = refl;
-      anchor = refl;
-      media = refl;
-      title = refl;
-      title* = refl;
-      type = refl;
-      hreflang = refl;
-      only = λ n. refl;
+      hreflang = λ s ps. each s (octets "hreflang") [] ps refl;
+      rev = λ s ps. each s (octets "rev") [] ps refl;
+      only = once-six;
     }

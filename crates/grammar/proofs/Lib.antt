@@ -8,6 +8,7 @@ pub mod Editions
 pub mod Readings
 pub mod Prefix
 pub mod OctetsOnly
+pub mod Codes
 pub mod Keeping
 pub mod Raise
 pub mod Joined

@@ -1,9 +1,10 @@
--- Kept parameters: within one link, of six names only the first is kept. Later ones must still be derived.
+-- Known names and kept parameters: within one link, of names kept once only the first is kept. Later ones must still be derived.
 use Prim.Native.Nat.{ℕ, suc}
 use mathlib.Core.Bool.{Bool, true, false, cond, _&&_, _||_}
 use mathlib.Core.List.{List, [], _∷_, map}
 use mathlib.Core.Path.{_≡_}
 use lib.Seq.{slice}
+use Rattle.octets.specs.Sets.{between}
 use Rattle.octets.specs.Text.{octets}
 use Rattle.octets.specs.Fold.{folded, same}
 use Rattle.grammar.specs.Link.{Link, Param}
@@ -18,28 +19,40 @@ abbrev pub among : List (List ℕ) → List ℕ → Bool
 among [] n = false
 among (m ∷ ms) n = same n m || among ms n
 
--- the names of which a link keeps only the first parameter
-abbrev pub onceNames : List (List ℕ)
-onceNames =
-    octets "rel" ∷ octets "anchor" ∷ octets "media" ∷ octets "title" ∷ octets "title*" ∷ octets "type" ∷ []
-
-unfoldable pub isOnce : List ℕ → Bool
-isOnce n = among onceNames n
+-- the known names, in the order of their codes
+abbrev pub knownNames : List (List ℕ)
+knownNames =
+    octets "rel" ∷
+    octets "anchor" ∷
+    octets "media" ∷
+    octets "title" ∷
+    octets "title*" ∷
+    octets "type" ∷
+    octets "hreflang" ∷
+    octets "rev" ∷
+    []
 
 -- the names listed are numbered from k on, and any other name is 0
 abbrev pub codeFrom : List (List ℕ) → ℕ → List ℕ → ℕ
 codeFrom [] k n = 0
 codeFrom (m ∷ ms) k n = cond (same n m) k (codeFrom ms (suc k) n)
 
--- the code of a folded name: 1 rel, 2 anchor, 3 media, 4 title, 5 title*, 6 type, and 0 any other name
+-- the code of a folded name: that of a known name, from 1 on, and 0 of any other
 unfoldable pub codeOf : List ℕ → ℕ
-codeOf n = codeFrom onceNames 1 n
+codeOf n = codeFrom knownNames 1 n
+
+-- kept once: codes 1 to 6, and nothing else
+abbrev pub onceCode : ℕ → Bool
+onceCode k = between 1 6 k
+
+unfoldable pub isOnce : List ℕ → Bool
+isOnce n = onceCode (codeOf n)
 
 abbrev pub unless : Bool → Param → List Param → List Param
 unless true p ps = ps
 unless false p ps = p ∷ ps
 
--- the kept parameters, after parameters of the names `earlier`: all but a later one of one of the six names
+-- the kept parameters, after parameters of the names `earlier`: all but a later one of a name kept once
 abbrev pub keepAfter : List ℕ → List (List ℕ) → List Param → List Param
 keepAfter s earlier [] = []
 keepAfter s earlier (p ∷ ps) =

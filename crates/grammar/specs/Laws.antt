@@ -1,17 +1,17 @@
 -- What is proved of the grammar, in every edition whose further octets keep apart.
-use Prim.Native.Nat.{ℕ}
+use Prim.Native.Nat.{ℕ, _-_, _≤_}
 use mathlib.Core.Path.{_≡_}
 use mathlib.Core.Logic.{_⊎_}
 use mathlib.Core.Bool.{true, false, _||_}
 use mathlib.Core.List.{List, [], _∷_}
 use mathlib.Core.Option.{some}
-use lib.ListN.{length}
-use Rattle.octets.specs.Sets.{all, isOctet}
+use lib.ListN.{length, getD}
+use Rattle.octets.specs.Sets.{all, between, isOctet}
 use Rattle.octets.specs.Text.{octets}
 use Rattle.octets.specs.Fold.{same}
 use Rattle.grammar.specs.Link.{Link, Param}
 use Rattle.grammar.specs.Grammar.{Extra, Admissible, Field}
-use Rattle.grammar.specs.Kept.{nameOf, isOnce, keepAfter, Reading}
+use Rattle.grammar.specs.Kept.{nameOf, among, knownNames, codeOf, isOnce, keepAfter, Reading}
 use Rattle.grammar.specs.Place.{Malformed, Begins, Place}
 use Rattle.grammar.specs.Join.{Padded, join, Readable, JoinReads}
 use Rattle.grammar.specs.Machine.{gap, run, finish}
@@ -48,18 +48,28 @@ abbrev pub firstOnly : List Param → List Param
 firstOnly [] = []
 firstOnly (p ∷ ps) = p ∷ []
 
--- Of each of the six names the first parameter is kept, of `hreflang` and all other names each one.
+-- The codes: that of a known name is its number in the list, from 1 on, and every other name has 0.
+pub record Codes : Type 0 where
+  pub known : (n : List ℕ) → (codeOf n ≡ 0 → ⊥) → codeOf n ≤ length knownNames × n ≡ getD knownNames (codeOf n - 1) []
+  pub other : (n : List ℕ) → among knownNames n ≡ false → codeOf n ≡ 0
+  pub rel : codeOf (octets "rel") ≡ 1
+  pub anchor : codeOf (octets "anchor") ≡ 2
+  pub media : codeOf (octets "media") ≡ 3
+  pub title : codeOf (octets "title") ≡ 4
+  pub title* : codeOf (octets "title*") ≡ 5
+  pub type : codeOf (octets "type") ≡ 6
+  pub hreflang : codeOf (octets "hreflang") ≡ 7
+  pub rev : codeOf (octets "rev") ≡ 8
+
+-- Of a name with a code from 1 to 6 the first parameter is kept, of all other names each one. Those six names are `only` these.
 pub record Keeps : Type 0 where
-  pub once : (s n : List ℕ) (ps : List Param) → isOnce n ≡ true
+  pub once : (s n : List ℕ) (ps : List Param) → between 1 6 (codeOf n) ≡ true
       → ofName s n (keepAfter s [] ps) ≡ firstOnly (ofName s n ps)
-  pub each-time : (s n : List ℕ) (ps : List Param) → isOnce n ≡ false → ofName s n (keepAfter s [] ps) ≡ ofName s n ps
-  pub rel : isOnce (octets "rel") ≡ true
-  pub anchor : isOnce (octets "anchor") ≡ true
-  pub media : isOnce (octets "media") ≡ true
-  pub title : isOnce (octets "title") ≡ true
-  pub title* : isOnce (octets "title*") ≡ true
-  pub type : isOnce (octets "type") ≡ true
-  pub hreflang : isOnce (octets "hreflang") ≡ false
+  pub each-time : (s n : List ℕ) (ps : List Param) → between 1 6 (codeOf n) ≡ false
+      → ofName s n (keepAfter s [] ps) ≡ ofName s n ps
+  pub hreflang : (s : List ℕ) (ps : List Param)
+      → ofName s (octets "hreflang") (keepAfter s [] ps) ≡ ofName s (octets "hreflang") ps
+  pub rev : (s : List ℕ) (ps : List Param) → ofName s (octets "rev") (keepAfter s [] ps) ≡ ofName s (octets "rev") ps
   pub only : (n : List ℕ)
       → isOnce n
       ≡ (same n (octets "rel")

@@ -1,5 +1,5 @@
 // The laws of the grammar, held by the gate: each function promises one statement of specs/Laws.antt and does nothing.
-ghost use Rattle.grammar.specs.Laws.{MachineExact, OneReading, Decided, OnePlace, Keeps, CutShort, OctetsOnly, Joins, JoinsMalformed};
+ghost use Rattle.grammar.specs.Laws.{MachineExact, OneReading, Decided, OnePlace, Codes, Keeps, CutShort, OctetsOnly, Joins, JoinsMalformed};
 
 // The machine is exact for the grammar.
 pub fn machine_exact()
@@ -21,7 +21,12 @@ pub fn one_place()
     ensures { λ _. ⌜ OnePlace ⌝ }
 {}
 
-// Of each of the six names the first parameter is kept, of all other names each one.
+// A known name's code is its number in the list of known names, and every other name's is 0.
+pub fn known_names()
+    ensures { λ _. ⌜ Codes ⌝ }
+{}
+
+// Of names with a code from 1 to 6 the first parameter is kept, of all other names each one.
 pub fn keeps()
     ensures { λ _. ⌜ Keeps ⌝ }
 {}

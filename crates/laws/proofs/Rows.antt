@@ -13,7 +13,7 @@ use Rattle.octets.specs.Text.{octets}
 use Rattle.grammar.specs.Grammar.{rfc8288}
 use Rattle.grammar.proofs.Editions.{admissible8288}
 use Rattle.grammar.proofs.Readings.{read-reading, unread-malformed}
-use Rattle.grammar.specs.Kept.{nameOf, isOnce}
+use Rattle.grammar.specs.Kept.{nameOf, codeOf, isOnce}
 use Rattle.tables.specs.Meaning.{unescape, valueOf}
 use Rattle.tables.specs.Relation.{runs, relations, hasRelation}
 use Rattle.tables.specs.Written.{writtenValue}
@@ -23,21 +23,21 @@ use Rattle.laws.specs.Laws.{MarkedHold, SlipsHold, third, fifth, Lookups
 use Rattle.laws.proofs.Checked.{recorded-known, rows-hold}
 
 pub marked-hold : MarkedHold
-unfolding isBlank isDigit isLetter isToken isPlain isEscapable isTarget isHex fold sameFolded nameOf isOnce unescape valueOf runs relations hasRelation writtenValue
+unfolding isBlank isDigit isLetter isToken isPlain isEscapable isTarget isHex fold sameFolded nameOf codeOf isOnce unescape valueOf runs relations hasRelation writtenValue
 marked-hold = rows-hold marked refl
 
 pub slips-hold : SlipsHold
-unfolding isBlank isDigit isLetter isToken isPlain isEscapable isTarget isHex fold sameFolded nameOf isOnce unescape valueOf runs relations hasRelation writtenValue
+unfolding isBlank isDigit isLetter isToken isPlain isEscapable isTarget isHex fold sameFolded nameOf codeOf isOnce unescape valueOf runs relations hasRelation writtenValue
 slips-hold = rows-hold slips refl
 
 -- both tables are usable: their records are those of a reading
 third-usable : Usable third
-unfolding isBlank isDigit isLetter isToken isPlain isEscapable isTarget isHex fold nameOf isOnce
+unfolding isBlank isDigit isLetter isToken isPlain isEscapable isTarget isHex fold nameOf codeOf isOnce
 third-usable =
     recorded-known (third .text) (third .linkSlots) (third .paramSlots) (leb-true (length (third .text)) limit refl) refl .usable
 
 fifth-usable : Usable fifth
-unfolding isBlank isDigit isLetter isToken isPlain isEscapable isTarget isHex fold nameOf isOnce
+unfolding isBlank isDigit isLetter isToken isPlain isEscapable isTarget isHex fold nameOf codeOf isOnce
 fifth-usable =
     recorded-known (fifth .text) (fifth .linkSlots) (fifth .paramSlots) (leb-true (length (fifth .text)) limit refl) refl .usable
 

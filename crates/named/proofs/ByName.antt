@@ -12,7 +12,7 @@ use Rattle.grammar.specs.Link.{Param}
 use Rattle.grammar.specs.Kept.{nameOf, codeOf}
 use Rattle.tables.specs.Good.{Each, each-none, each-more}
 use Rattle.tables.specs.Relation.{named}
-use Rattle.names.proofs.Codes.{code-same, code-other, rel-code, anchor-code}
+use Rattle.grammar.proofs.Codes.{codes, code-same, code-other}
 use Rattle.named.specs.First.{coded}
 
 pub by-name : (s n : List ℕ) {k : ℕ} → codeOf n ≡ k → (k ≡ 0 → ⊥) → (ps : List Param) → named s n ps ≡ coded s k ps
@@ -27,10 +27,10 @@ by-name s n {k} e o (p ∷ ps) = go (eqb (codeOf (nameOf s p)) k) refl (by-name 
 
 -- the names that are asked for
 pub by-rel : (s : List ℕ) (ps : List Param) → named s (octets "rel") ps ≡ coded s 1 ps
-by-rel s ps = by-name s (octets "rel") rel-code (λ q. omega arith) ps
+by-rel s ps = by-name s (octets "rel") (codes .rel) (λ q. omega arith) ps
 
 pub by-anchor : (s : List ℕ) (ps : List Param) → named s (octets "anchor") ps ≡ coded s 2 ps
-by-anchor s ps = by-name s (octets "anchor") anchor-code (λ q. omega arith) ps
+by-anchor s ps = by-name s (octets "anchor") (codes .anchor) (λ q. omega arith) ps
 
 -- what each parameter is, the one found is
 pub coded-each : {Q : Param → Type 0} (s : List ℕ) (k : ℕ) {ps : List Param} {p : Param} → Each Q ps → coded s k ps ≡ some p

@@ -1,3 +1,3 @@
--- The laws of codes and of what has been seen, for other crates to cite.
-pub mod Codes
+-- The laws of what has been seen, for other crates to cite.
+pub mod Deciding
 pub mod Seeing

@@ -1,11 +1,13 @@
-// The six names of which a link keeps only the first parameter: a number for each, and a record of which have been seen.
+// Known names: the code of each, and a record of which of those kept once have been seen.
+ghost use mathlib.Core.Bool.{cond};
 ghost use mathlib.Core.Path.{_≡_};
 ghost use lib.Seq.{slice};
-ghost use Rattle.octets.specs.Fold.{folded};
+ghost use Rattle.octets.specs.Fold.{folded, sameFolded};
 ghost use Rattle.grammar.specs.Kept.{codeOf};
 ghost use Rattle.tables.specs.Good.{InText};
 ghost use Rattle.names.specs.Remembers.{noneSeen, hasCode, withCode};
 use folding::same_folded;
+use kinds::Place;
 use kinds::Span;
 
 // The codes of the names that are asked for: `rel` and `anchor`.
@@ -13,9 +15,12 @@ pub const REL: u8 = 1;
 
 pub const ANCHOR: u8 = 2;
 
-// Which of the six names stood earlier in a link: the bit of a name's code is set.
+// The bits of the codes of names kept once, 1 to 6.
+const ONCE: u32 = 126;
+
+// Which of the names kept once stood earlier in a link: the bit of a name's code is set.
 pub struct Seen {
-    marks: u8,
+    marks: u32,
 }
 
 impl Seen {
@@ -25,11 +30,11 @@ impl Seen {
         Seen { marks: 0 }
     }
 
-    // Whether the name of this code has been seen. Code 0 never is.
+    // Whether the name of this code is kept once and has been seen.
     pub fn has(self, code: u8) -> bool
         ensures { λ r. ⌜ r ≡ hasCode self code ⌝ }
     {
-        (code != 0) & ((self.marks >> (code % 8)) % 2 == 1)
+        (self.marks >> (code % 32)) % 2 == 1
     }
 
     // What has been seen behind one more name, of this code.
@@ -37,35 +42,43 @@ impl Seen {
         ensures { λ r. ⌜ r ≡ withCode self code ⌝ }
     {
         Seen {
-            marks: self.marks | (1 << (code % 8)),
+            marks: self.marks | ((1 << (code % 32)) & ONCE),
         }
     }
 }
 
-// The code of the name n, written in any case: 1 to 6, or 0 if it is none of the six. The lengths are compared first, so that most
-// names cost no more than that.
-fn code_of(n: &[u8]) -> u8
+// The code k if n is the name m, and else none.
+fn only(n: &[u8], m: &[u8], k: u8) -> u8
+    ensures { λ r. ⌜ r ≡ cond (sameFolded (now (n .entry)) (now (m .entry))) k 0 ⌝ }
+{
+    if same_folded(n, m) { k } else { 0 }
+}
+
+// The code of the name n, written in any case, or 0 if it is not known. Its length and one of its first octets leave one known name at
+// most, and only that one is compared.
+fn known(n: &[u8]) -> u8
     ensures { λ r. ⌜ r ≡ codeOf (folded (now (n .entry))) ⌝ }
 {
-    if same_folded(n, b"rel") {
-        return REL;
+    match n.len() {
+        3 => if n[2] | 32 == b'l' {
+            only(n, b"rel", REL)
+        } else {
+            only(n, b"rev", 8)
+        },
+        4 => only(n, b"type", 6),
+        5 => if n[0] | 32 == b'm' {
+            only(n, b"media", 3)
+        } else {
+            only(n, b"title", 4)
+        },
+        6 => if n[0] | 32 == b'a' {
+            only(n, b"anchor", ANCHOR)
+        } else {
+            only(n, b"title*", 5)
+        },
+        8 => only(n, b"hreflang", 7),
+        _ => 0,
     }
-    if same_folded(n, b"anchor") {
-        return ANCHOR;
-    }
-    if same_folded(n, b"media") {
-        return 3;
-    }
-    if same_folded(n, b"title") {
-        return 4;
-    }
-    if same_folded(n, b"title*") {
-        return 5;
-    }
-    if same_folded(n, b"type") {
-        return 6;
-    }
-    0
 }
 
 // The code of the name that stands there.
@@ -75,5 +88,18 @@ pub fn code(s: &[u8], name: Span) -> u8
 {
     let from = name.from.0;
     let to = name.to.0;
-    code_of(&s[from..to])
+    known(&s[from..to])
+}
+
+// The code of a name by itself.
+pub fn code_of(n: &[u8]) -> u8
+    ensures { λ r. ⌜ r ≡ codeOf (folded (now (n .entry))) ⌝ }
+{
+    code(
+        n,
+        Span {
+            from: Place(0),
+            to: Place(n.len()),
+        },
+    )
 }

@@ -28,7 +28,8 @@ every-at f (suc n) e c h =
 abbrev pub Octets : (ℕ → Bool) → Type 0
 Octets f = (c : ℕ) → f c ≡ true → c < 256
 
-only-if : (a b : Bool) → (not a || b) ≡ true → a ≡ true → b ≡ true
+-- a test that passes wherever another does
+pub only-if : (a b : Bool) → (not a || b) ≡ true → a ≡ true → b ≡ true
 only-if true b e h = e
 only-if false b e h = absurd (false≢true h)
 

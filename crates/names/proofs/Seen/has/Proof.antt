@@ -5,6 +5,9 @@ use Rattle.names.specs.Remembers.{hasCode}
 use Rattle.names.proofs.Seen.has.Statement.{statement}
 use Rattle.names.proofs.Seen.has.Tie as tie
 
+cast-result : tie.Need-cast-result
+cast-result c = search needs
+
 shr-result : tie.Need-shr-result
 shr-result c = search needs
 
@@ -13,4 +16,4 @@ unfolding hasCode
 returns c = refl
 
 pub has-spec : {M : Type 1} → statement M
-has-spec = tie.close (tie.spec shr-result returns)
+has-spec = tie.close (tie.spec cast-result shr-result returns)
