@@ -51,7 +51,7 @@ module _ (n : List ℕ) {l : ℕ} where
   pub not-long : (length n ≡ l → ⊥) → long l (folded n) ≡ false
   not-long h = ne-eqb (length (folded n)) l (λ e. h (sym (length-map n fold) ∙ e))
 
-low-told : (n : List ℕ) (i : ℕ) → bitOr (getD (folded n) i 0) 32 ≡ bitOr (getD n i 0) 32
+pub low-told : (n : List ℕ) (i : ℕ) → bitOr (getD (folded n) i 0) 32 ≡ bitOr (getD n i 0) 32
 low-told n i = ap (λ (c : ℕ). bitOr c 32) (fold-at n i) ∙ low-fold (getD n i 0)
 
 module _ (n : List ℕ) (i : ℕ) {d : ℕ} where

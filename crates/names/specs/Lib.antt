@@ -1,2 +1,3 @@
 -- What the crate `names` means by its words.
+pub mod First
 pub mod Remembers
