@@ -21,16 +21,16 @@
  * 1 a token, and 2 a quoted string, whose span lies inside the quotes with its backslashes still there. The room is the count of slots
  * divided by 4 or by 5, rounded down. No header has more than 2,731 links, nor more than 4,095 parameters.
  *
- * Numbers. Each answer but capstan_start's begins with one; the other numbers of a refusal are 0, except the place with
- * CAPSTAN_MALFORMED and the next state of a feed, and a refusal leaves every slot and octet lent as it was. After success, slots and
- * octets past those used hold what they held.
+ * Numbers. Each answer but those of capstan_start and capstan_name_code begins with one; the other numbers of a refusal are 0, except
+ * the place with CAPSTAN_MALFORMED and the next state of a feed, and a refusal leaves every slot and octet lent as it was. After
+ * success, slots and octets past those used hold what they held.
  *
  * The functions over a table take its text, its slots and its counts as capstan_read or capstan_finish was given and answered them.
  * They check all of it: tables of any other making are used if they are good, and refused with CAPSTAN_BAD_TABLE if they are not. A
  * table is good if the counts fit the rooms; the first link's parameters begin at number 0, each later link's where the former's end,
  * and the last ends at the count; every span lies in the text, start at most end; targets, names and values are what the RFC's grammar
- * derives for them and the form is 0, 1 or 2; and no link has two parameters of one of the names `rel`, `anchor`, `media`, `title`,
- * `title*` and `type`. Spans may overlap or stand in any order.
+ * derives for them and the form is 0, 1 or 2; and no link has two parameters of one of the names of codes 1 to 6, whose list stands
+ * below. Spans may overlap or stand in any order.
  */
 #ifndef CAPSTAN_H
 #define CAPSTAN_H
@@ -69,6 +69,22 @@ enum {
     CAPSTAN_QUOTED = 2
 };
 
+/*
+ * The codes of parameters' names, whatever the case of A to Z. Of each of the names of codes 1 to 6 a link keeps the first parameter
+ * only; of any other name it keeps each one.
+ */
+enum {
+    CAPSTAN_REL = 1,        /* `rel` */
+    CAPSTAN_ANCHOR = 2,     /* `anchor` */
+    CAPSTAN_MEDIA = 3,      /* `media` */
+    CAPSTAN_TITLE = 4,      /* `title` */
+    CAPSTAN_TITLE_STAR = 5, /* `title*` */
+    CAPSTAN_TYPE = 6,       /* `type` */
+    CAPSTAN_HREFLANG = 7,   /* `hreflang` */
+    CAPSTAN_REV = 8,        /* `rev` */
+    CAPSTAN_OTHER_NAME = 0  /* any other, also the empty one */
+};
+
 /* Where a context lies. */
 enum {
     CAPSTAN_NO_SOURCE = 0,
@@ -88,9 +104,9 @@ typedef struct { size_t number, place; capstan_feeding next; } capstan_feed_answ
 /*
  * Reads a header, which is the field value without the field's name and colon, into the tables `links` and `params`.
  *
- * Answers the counts of links and of kept parameters; of `rel`, `anchor`, `media`, `title`, `title*` and `type` a link keeps the
- * first only. A malformed header is refused with its place: how many octets stand in its longest prefix that begins some well formed
- * header. One that is cut short has its own length as place.
+ * Answers the counts of links and of kept parameters: of names of codes 1 to 6 the first of a link, of others each. A malformed header
+ * is refused with its place: how many octets stand in its longest prefix that begins some well formed header. One that is cut short
+ * has its own length as place.
  * Numbers, in the order in which they are tested: CAPSTAN_TOO_LONG, CAPSTAN_MALFORMED, CAPSTAN_NO_LINK_ROOM, CAPSTAN_NO_PARAM_ROOM.
  */
 capstan_read_answer capstan_read(const uint8_t *header, size_t header_len, size_t *links, size_t link_slots, size_t *params,
@@ -127,6 +143,12 @@ capstan_feed_answer capstan_feed(capstan_feeding state, const uint8_t *part, siz
  */
 capstan_read_answer capstan_finish(capstan_feeding state, const uint8_t *buffer, size_t buffer_len, size_t *links, size_t link_slots,
                                    size_t *params, size_t param_slots);
+
+/*
+ * Answers the code of a parameter's name, which compares with A to Z taken for a to z. Any octets of any length may be asked, also none:
+ * nothing is refused, and what is not one of the names with a code is CAPSTAN_OTHER_NAME.
+ */
+size_t capstan_name_code(const uint8_t *name, size_t name_len);
 
 /*
  * Answers the lowest number of a link that has the relation. A link's relations are what stands between the spaces of its `rel` value;

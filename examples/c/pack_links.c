@@ -20,7 +20,24 @@ static void print_part(size_t start, size_t end)
     fwrite(text + start, 1, end - start, stdout);
 }
 
-/* Prints the target of the first link that has the relation, and what it is a link of if that is not the pack itself. */
+/* Prints the languages that the link names: a link may have several parameters `hreflang`, and each of them is kept. */
+static void print_languages(size_t number)
+{
+    static uint8_t language[CAPSTAN_LIMIT]; /* enough for any value, so none is refused */
+    const size_t *link = links + CAPSTAN_LINK_SLOTS * number;
+
+    for (size_t place = 0; place < link[3]; place++) {
+        const size_t *param = params + CAPSTAN_PARAM_SLOTS * (link[2] + place);
+        if (capstan_name_code(text + param[0], param[1] - param[0]) != CAPSTAN_HREFLANG)
+            continue;
+        capstan_length_answer meant = capstan_value(text, text_len, links, LINK_SLOTS, params, PARAM_SLOTS, table.links,
+                                                    table.params, number, place, language, sizeof language);
+        printf(", in ");
+        fwrite(language, 1, meant.length, stdout);
+    }
+}
+
+/* Prints the target of the first link that has the relation, its languages, and what it is a link of if not of the pack itself. */
 static void print_link(const char *relation)
 {
     capstan_search_answer found = capstan_search(text, text_len, links, LINK_SLOTS, params, PARAM_SLOTS, table.links, table.params,
@@ -32,6 +49,7 @@ static void print_link(const char *relation)
     const size_t *link = links + CAPSTAN_LINK_SLOTS * found.link;
     printf("%s: ", relation);
     print_part(link[0], link[1]);
+    print_languages(found.link);
 
     const uint8_t *base = text; /* the pack's own address would stand here; this program has none, and passes no octets of it */
     capstan_context_answer context = capstan_context(text, text_len, base, 0, links, LINK_SLOTS, params, PARAM_SLOTS, table.links,

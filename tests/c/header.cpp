@@ -41,6 +41,7 @@ int main()
     std::vector<std::uint8_t> out(64);
 
     const auto r = capstan_read(octets(header), header.size(), links.data(), links.size(), params.data(), params.size());
+    const auto code = capstan_name_code(octets(header) + params[0], params[1] - params[0]);
     const auto s = capstan_search(octets(header), header.size(), links.data(), links.size(), params.data(), params.size(), r.links,
                                   r.params, octets(relation), relation.size());
     const auto c = capstan_context(octets(header), header.size(), octets(base), base.size(), links.data(), links.size(),
@@ -54,7 +55,7 @@ int main()
     const bool holds = r.number == CAPSTAN_DONE && r.links == 1 && r.params == 1 && s.number == CAPSTAN_DONE && s.link == 0
         && c.number == CAPSTAN_DONE && c.source == CAPSTAN_BASE && c.start == 0 && c.end == base.size() && v.number == CAPSTAN_DONE
         && v.length == relation.size() && std::memcmp(out.data(), relation.data(), v.length) == 0 && w.number == CAPSTAN_DONE
-        && w.length == form.size() && std::memcmp(written.data(), form.data(), w.length) == 0
+        && w.length == form.size() && std::memcmp(written.data(), form.data(), w.length) == 0 && code == CAPSTAN_REL
         && parts_hold(header, r, links, params);
     if (!holds)
         std::puts("header.cpp: an answer is not the one expected");
