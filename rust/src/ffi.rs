@@ -12,8 +12,8 @@ pub use answers::{
     ContextAnswer, FeedAnswer, FeedingState, LengthAnswer, RawTable, ReadAnswer, SearchAnswer,
 };
 use symbols::{
-    capstan_context, capstan_feed, capstan_finish, capstan_read, capstan_search, capstan_start,
-    capstan_value, capstan_write,
+    capstan_context, capstan_feed, capstan_finish, capstan_name_code, capstan_read, capstan_search,
+    capstan_start, capstan_value, capstan_write,
 };
 
 /// Reads a header into the slots lent.
@@ -101,6 +101,19 @@ pub fn finish(
             params.len(),
         )
     }
+}
+
+/// Asks for the code of a parameter's name, 0 if it has none.
+///
+/// ```
+/// use capstanbar::ffi::name_code;
+///
+/// assert_eq!([name_code(b"Rel"), name_code(b"TITLE*")], [1, 5]);
+/// assert_eq!([name_code(b"relation"), name_code(b"")], [0, 0]);
+/// ```
+pub fn name_code(name: &[u8]) -> usize {
+    // SAFETY: as in `read`; nothing is lent for writing.
+    unsafe { capstan_name_code(name.as_ptr(), name.len()) }
 }
 
 /// Searches for the lowest link that has the relation.

@@ -29,6 +29,22 @@
 //! # Ok::<(), capstanbar::Refusal>(())
 //! ```
 //!
+//! Parameters are found by a [`Name`] that the library knows, or by any octets:
+//!
+//! ```
+//! use capstanbar::{Name, Table};
+//!
+//! let (mut links, mut params) = ([0; 4 * 16], [0; 5 * 64]);
+//! let header = b"</packs/9>; rel=next; HrefLang=en; hreflang=de; pack=9";
+//! let table = Table::read(header, &mut links, &mut params)?;
+//! let next = table.search(b"next")?;
+//! assert_eq!(next.find(Name::Hreflang).unwrap().raw_value(), b"en");
+//! let languages = next.find_all(Name::Hreflang).map(|param| param.raw_value());
+//! assert!(languages.eq([b"en", b"de"]));
+//! assert!(next.find(b"Pack").is_some());
+//! # Ok::<(), capstanbar::Refusal>(())
+//! ```
+//!
 //! A header that arrives in parts is fed to a [`Feeding`] part by part, wherever it is cut:
 //!
 //! ```
@@ -63,6 +79,7 @@ mod feeding;
 pub mod ffi;
 mod limits;
 mod link;
+mod name;
 mod param;
 mod read;
 mod refusal;
@@ -71,7 +88,8 @@ mod table;
 pub use feeding::Feeding;
 pub use limits::{LIMIT, LINK_SLOTS, PARAM_SLOTS};
 pub use link::{Link, Links};
-pub use param::{Form, Param, Params};
+pub use name::{ByName, Name};
+pub use param::{Form, NamedParams, Param, Params};
 pub use read::{read, Counts};
 pub use refusal::Refusal;
 pub use table::Table;

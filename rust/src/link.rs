@@ -1,4 +1,4 @@
-use crate::{Param, Params, Table};
+use crate::{ByName, NamedParams, Param, Params, Table};
 use core::ops::Range;
 
 /// A link of a table.
@@ -62,19 +62,43 @@ impl<'a> Link<'a> {
         Params::of(self.table, self.number, first, count)
     }
 
-    /// Its first parameter of that name, whatever the case of letters.
+    /// Its first parameter of that name, whatever the case of letters. The name is a
+    /// [`Name`](crate::Name) or any octets.
     ///
     /// ```
-    /// # let (mut links, mut params) = ([0; 8], [0; 10]);
-    /// let table = capstanbar::Table::read(b"<a>;x;Type=t", &mut links, &mut params)?;
+    /// use capstanbar::Name;
+    ///
+    /// # let (mut links, mut params) = ([0; 8], [0; 15]);
+    /// let table = capstanbar::Table::read(b"<a>;x=y;Type=t;title*=u", &mut links, &mut params)?;
     /// let link = table.link(0).unwrap();
+    /// assert_eq!(link.find(Name::Type).unwrap().raw_value(), b"t");
     /// assert_eq!(link.find(b"type").unwrap().raw_value(), b"t");
-    /// assert!(link.find(b"title").is_none());
+    /// assert_eq!(link.find(b"X").unwrap().raw_value(), b"y");
+    /// assert!(link.find(Name::Title).is_none());
     /// # Ok::<(), capstanbar::Refusal>(())
     /// ```
-    pub fn find(&self, name: &[u8]) -> Option<Param<'a>> {
-        self.params()
-            .find(|param| param.name().eq_ignore_ascii_case(name))
+    pub fn find<'n>(&self, name: impl Into<ByName<'n>>) -> Option<Param<'a>> {
+        self.find_all(name).next()
+    }
+
+    /// Its parameters of that name in order, of names that are kept each time maybe several.
+    ///
+    /// ```
+    /// use capstanbar::Name;
+    ///
+    /// # let (mut links, mut params) = ([0; 4], [0; 30]);
+    /// let header = b"<a>;HrefLang=en;rev=b;hreflang=de;REV=c;Type=d;type=e;x=f";
+    /// let table = capstanbar::Table::read(header, &mut links, &mut params)?;
+    /// let link = table.link(0).unwrap();
+    /// let places = |name| link.find_all(name).map(|param| param.place()).collect::<Vec<_>>();
+    /// assert_eq!(places(Name::Hreflang), [0, 2]);
+    /// assert_eq!(places(Name::Rev), [1, 3]);
+    /// assert_eq!(places(Name::Type), [4]); // of `type` only the first is kept
+    /// assert_eq!(link.find_all(b"X").count(), 1);
+    /// # Ok::<(), capstanbar::Refusal>(())
+    /// ```
+    pub fn find_all<'n>(&self, name: impl Into<ByName<'n>>) -> NamedParams<'a, 'n> {
+        NamedParams::of(self.params(), name.into())
     }
 
     /// Its context: what its `anchor` holds, as it is written, even if that is nothing; without one, the base.

@@ -1,4 +1,4 @@
-use crate::{Refusal, Table};
+use crate::{ByName, Name, Refusal, Table};
 use core::ops::Range;
 
 /// How a parameter's value is written.
@@ -78,6 +78,21 @@ impl<'a> Param<'a> {
     pub fn name(&self) -> &'a [u8] {
         let [start, end, ..] = self.table.param_record(self.number);
         &self.table.text()[start..end]
+    }
+
+    /// Which name that the library knows it has, if it has one.
+    ///
+    /// ```
+    /// use capstanbar::Name;
+    ///
+    /// # let (mut links, mut params) = ([0; 4], [0; 15]);
+    /// let table = capstanbar::Table::read(b"<a>;REL=x;title*=y;z", &mut links, &mut params)?;
+    /// let known = table.link(0).unwrap().params().map(|param| param.known());
+    /// assert!(known.eq([Some(Name::Rel), Some(Name::TitleStar), None]));
+    /// # Ok::<(), capstanbar::Refusal>(())
+    /// ```
+    pub fn known(&self) -> Option<Name> {
+        Name::of(self.name())
     }
 
     /// The octets of its value as written: those inside the quotes of a quoted string, backslashes
@@ -191,3 +206,47 @@ impl DoubleEndedIterator for Params<'_> {
 }
 
 impl ExactSizeIterator for Params<'_> {}
+
+/// The parameters of a link that have one name, in order.
+///
+/// ```
+/// use capstanbar::Name;
+///
+/// # let (mut links, mut params) = ([0; 4], [0; 15]);
+/// let header = b"<a>;hreflang=en;x;HREFLANG=de";
+/// let table = capstanbar::Table::read(header, &mut links, &mut params)?;
+/// let mut languages = table.link(0).unwrap().find_all(Name::Hreflang);
+/// assert_eq!(languages.next_back().unwrap().raw_value(), b"de");
+/// assert_eq!(languages.next().unwrap().raw_value(), b"en");
+/// assert!(languages.next().is_none());
+/// # Ok::<(), capstanbar::Refusal>(())
+/// ```
+#[derive(Clone, Debug)]
+pub struct NamedParams<'a, 'n> {
+    params: Params<'a>,
+    name: ByName<'n>,
+}
+
+impl<'a, 'n> NamedParams<'a, 'n> {
+    pub(crate) fn of(params: Params<'a>, name: ByName<'n>) -> NamedParams<'a, 'n> {
+        NamedParams { params, name }
+    }
+}
+
+impl<'a> Iterator for NamedParams<'a, '_> {
+    type Item = Param<'a>;
+
+    fn next(&mut self) -> Option<Param<'a>> {
+        self.params.find(|param| self.name.is(param.name()))
+    }
+
+    fn size_hint(&self) -> (usize, Option<usize>) {
+        (0, Some(self.params.len()))
+    }
+}
+
+impl DoubleEndedIterator for NamedParams<'_, '_> {
+    fn next_back(&mut self) -> Option<Self::Item> {
+        self.params.rfind(|param| self.name.is(param.name()))
+    }
+}

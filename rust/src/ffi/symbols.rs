@@ -28,6 +28,7 @@ extern "C" {
         params: *mut usize,
         param_slots: usize,
     ) -> ReadAnswer;
+    pub fn capstan_name_code(name: *const u8, name_len: usize) -> usize;
     pub fn capstan_search(
         text: *const u8,
         text_len: usize,
