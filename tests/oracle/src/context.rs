@@ -1,6 +1,6 @@
 //! The context of a link.
 
-use crate::kept::same_name;
+use crate::code::same_name;
 use crate::number::{DONE, NO_SUCH_LINK};
 use crate::table::asked_links;
 

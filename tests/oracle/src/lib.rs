@@ -11,6 +11,7 @@
 //! Tables are lent as slots of plain numbers, and every answer begins with
 //! one of the rules' numbers ([`number`]).
 
+mod code;
 mod context;
 mod derivation;
 mod feeding;
@@ -32,6 +33,7 @@ mod value;
 mod vectors;
 mod write;
 
+pub use code::name_code;
 pub use context::context;
 pub use feeding::Feeding;
 pub use listing::listing;

@@ -1,5 +1,6 @@
 //! The contract's own rows, limits, orders and laws.
 
+mod codes;
 mod feeds;
 mod laws;
 mod limits;

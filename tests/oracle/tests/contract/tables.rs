@@ -1,5 +1,6 @@
 //! Good tables and hostile ones.
 
+use crate::codes::{Known, NAMES};
 use crate::{accepted, Tables};
 
 /// A good table over `a;b="\"c" %41` with spans that overlap and stand out of order.
@@ -134,23 +135,17 @@ fn slots_past_the_counts_are_free() {
 }
 
 #[test]
-fn the_six_names_stand_once_in_a_link() {
-    for name in ["rel", "anchor", "media", "title", "title*", "type"] {
+fn a_link_has_a_name_again_unless_it_is_kept_once() {
+    for &Known { name, once, .. } in NAMES {
         let text = format!("{name} {}", name.to_uppercase());
         let length = name.len();
         let first = [0, length, length, length, 0];
         let second = [length + 1, text.len(), text.len(), text.len(), 0];
-        let apart = [[0, 0, 0, 1], [0, 0, 1, 1]];
-        assert!(!Tables::new(text.as_bytes(), &[[0, 0, 0, 2]], &[first, second]).good());
-        assert!(Tables::new(text.as_bytes(), &apart, &[first, second]).good());
+        let good = |links| Tables::new(text.as_bytes(), links, &[first, second]).good();
+        assert_eq!(good(&[[0, 0, 0, 2]]), !once, "{name}");
+        assert!(good(&[[0, 0, 0, 1], [0, 0, 1, 1]]), "{name}");
     }
-    for twice in [
-        "<a>;hreflang;HREFLANG",
-        "<a>;rev=x;rev=y",
-        "<a>;title;title*",
-    ] {
-        assert_eq!(accepted(twice.as_bytes()).param_count, 2);
-    }
+    assert_eq!(accepted(b"<a>;title;title*").param_count, 2);
 }
 
 #[test]

@@ -1,0 +1,34 @@
+//! The codes of parameters' names.
+
+/// The known names, in the order of their codes.
+const KNOWN: [&[u8]; 8] = [
+    b"rel",
+    b"anchor",
+    b"media",
+    b"title",
+    b"title*",
+    b"type",
+    b"hreflang",
+    b"rev",
+];
+
+/// Of the known names up to this code only the first parameter of a link is
+/// kept.
+const LAST_ONCE: usize = 6;
+
+/// Whether two names are the same, A to Z folded to a to z.
+pub fn same_name(one: &[u8], other: &[u8]) -> bool {
+    one.eq_ignore_ascii_case(other)
+}
+
+/// The place of the name among the known ones, counted from 1; 0 if it isn't
+/// known.
+pub fn name_code(name: &[u8]) -> usize {
+    let place = KNOWN.iter().position(|known| same_name(known, name));
+    place.map_or(0, |place| place + 1)
+}
+
+/// Whether of parameters of this name a link keeps only the first.
+pub fn kept_once(name: &[u8]) -> bool {
+    (1..=LAST_ONCE).contains(&name_code(name))
+}
