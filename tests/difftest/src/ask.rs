@@ -1,5 +1,6 @@
 //! Everything that can be asked of a table, at the edges of each question.
 
+use crate::codes;
 use crate::compare::{read, Asked, Compared};
 use crate::run::Run;
 use crate::shown::{self, Difference};
@@ -22,6 +23,9 @@ pub fn ask(run: &mut Run, tables: &Tables) -> Compared<()> {
     let form = writes(run, &asked)?;
     asked.unchanged()?;
     view::compare(tables, meanings.as_deref())?;
+    if meanings.is_some() {
+        codes::compare(run, tables)?;
+    }
     match form {
         Some(form) => read_back(run, tables, links, &form),
         None => Ok(()),

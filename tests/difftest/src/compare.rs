@@ -1,6 +1,7 @@
 //! One call of an entry, by the library and by the reference, with everything lent looked at.
 
 mod asked;
+mod code;
 mod equal;
 mod feed;
 mod frame;
@@ -9,6 +10,7 @@ mod reading;
 
 use crate::shown::Difference;
 pub use asked::Asked;
+pub use code::{name_code, name_code_of};
 pub use feed::{Expected, Fed};
 pub use frame::{feed_any, finish_any};
 pub use read::read;

@@ -1,5 +1,6 @@
 //! Cases made from numbers.
 
+pub mod case;
 pub mod header;
 pub mod octets;
 pub mod spans;

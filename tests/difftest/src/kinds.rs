@@ -6,6 +6,7 @@ mod edges;
 mod feeds;
 mod joins;
 mod made;
+mod names;
 mod octets;
 pub mod program;
 mod rooms;
@@ -25,6 +26,7 @@ pub fn fixed(run: &mut Run, deep: bool) -> Compared<()> {
     octets::compare(run)?;
     stored::compare(run)?;
     edges::compare(run)?;
+    names::fixed(run)?;
     feeds::fixed(run, deep)
 }
 
@@ -37,6 +39,7 @@ pub fn seeded(run: &mut Run) -> Compared<()> {
     made::compare(run)?;
     bad::compare(run)?;
     wild::compare(run)?;
+    names::seeded(run)?;
     feeds::seeded(run)
 }
 

@@ -6,6 +6,7 @@
 
 mod args;
 mod ask;
+mod codes;
 mod compare;
 mod generate;
 mod kinds;

@@ -1,4 +1,4 @@
-//! Which numbers each entry answered, and how often.
+//! Which numbers each entry answered, and how often; and the codes of names that a link has again.
 
 use std::fmt::Write;
 
@@ -11,9 +11,11 @@ pub enum Entry {
     Context,
     Value,
     Write,
+    NameCode,
+    Again,
 }
 
-const ENTRIES: [(Entry, &str, &[usize]); 7] = [
+const ENTRIES: [(Entry, &str, &[usize]); 9] = [
     (Entry::Read, "read", &[0, 1, 2, 3, 4]),
     (Entry::Feed, "feed", &[0, 1, 2, 7]),
     (Entry::Finish, "finish", &[0, 1, 2, 3, 4, 7]),
@@ -21,6 +23,8 @@ const ENTRIES: [(Entry, &str, &[usize]); 7] = [
     (Entry::Context, "context", &[0, 1, 5, 8]),
     (Entry::Value, "value", &[0, 1, 5, 7, 8, 9]),
     (Entry::Write, "write", &[0, 1, 5, 6, 7, FORM_TOO_LONG]),
+    (Entry::NameCode, "name_code", &[0, 1, 2, 3, 4, 5, 6, 7, 8]),
+    (Entry::Again, "name_code of a name again", &[0, 7, 8]),
 ];
 
 /// Stands for number 1 where the written form is too long, and not the text.

@@ -1,6 +1,9 @@
 //! Headers derived from the grammar, with the records that this derivation gives.
 
-use super::octets::{is_escapable, is_plain, is_target, is_token, ALWAYS, HEX, LETTERS, ONCE};
+use super::case::cased;
+use super::octets::{
+    is_escapable, is_plain, is_target, is_token, ALWAYS, HEX, LETTERS, ONCE, UNKNOWN,
+};
 use crate::numbers::Numbers;
 
 /// A header and its records.
@@ -125,21 +128,15 @@ impl Maker<'_> {
     }
 
     fn name(&mut self) {
-        let known = match self.numbers.below(8) {
-            0 => ALWAYS[self.numbers.below(ALWAYS.len())],
-            1 | 2 => b"rel",
-            3..6 => ONCE[self.numbers.below(ONCE.len())],
+        let word = match self.numbers.below(10) {
+            0 => self.numbers.of(&UNKNOWN),
+            1 | 2 => self.numbers.of(&ALWAYS),
+            3 | 4 => b"rel",
+            5..8 => self.numbers.of(&ONCE),
             _ => return self.token(),
         };
-        let case = self.numbers.below(3);
-        for &octet in known {
-            let upper = case == 1 || (case == 2 && self.numbers.once_in(2));
-            self.put(if upper {
-                octet.to_ascii_uppercase()
-            } else {
-                octet
-            });
-        }
+        let name = cased(self.numbers, word);
+        self.made.header.extend(name);
     }
 
     fn token(&mut self) {

@@ -1,6 +1,7 @@
 //! Good tables that no reading gave: spans overlap and stand in any order.
 
-use super::octets::{is_token, ALWAYS, ONCE};
+use super::case::cased;
+use super::octets::{is_token, ALWAYS, ONCE, UNKNOWN};
 use super::{header, spans};
 use crate::numbers::Numbers;
 use crate::tables::Tables;
@@ -41,18 +42,14 @@ fn soup(numbers: &mut Numbers) -> (Vec<u8>, Vec<[usize; 2]>) {
         words.push([text.len(), text.len() + word.len()]);
         text.extend(word);
     };
-    put_word(&mut text, numbers.of(&[b"rel", b"REL", b"rEl"]).to_vec());
+    put_word(&mut text, cased(numbers, b"rel"));
     for _ in 0..4 + numbers.below(8) {
-        let word = match numbers.once_in(2) {
-            true => numbers.of(&ONCE),
-            false => numbers.of(&ALWAYS),
+        let word = match numbers.below(4) {
+            0 => numbers.of(&UNKNOWN),
+            1 => numbers.of(&ALWAYS),
+            _ => numbers.of(&ONCE),
         };
-        let upper = numbers.once_in(3);
-        let word = if upper {
-            word.to_ascii_uppercase()
-        } else {
-            word.to_vec()
-        };
+        let word = cased(numbers, word);
         text.extend(header::derive(numbers, header::SHORT).header);
         put_word(&mut text, word);
         text.push(numbers.octet());

@@ -68,6 +68,9 @@ pub const WAYS: &[(&str, Way)] = &[
     ("a name that may stand again, twice", |_, tables| {
         names(tables, [b"hreflang", b"HREFLANG", b"Hreflang"])
     }),
+    ("the other name that may stand again", |_, tables| {
+        names(tables, [b"rev", b"REV", b"Rev"])
+    }),
     ("title and title*", |_, tables| {
         names(tables, [b"title", b"TITLE*", b"title**"])
     }),

@@ -2,6 +2,7 @@
 
 use super::edit::{append, set_name, set_target, set_value};
 use super::Way;
+use crate::generate::case::cased;
 use crate::generate::octets::{is_escapable, is_hex, is_plain, is_target, is_token, ONCE};
 use crate::numbers::Numbers;
 use crate::tables::Tables;
@@ -113,12 +114,7 @@ fn twice<const NAME: usize>(numbers: &mut Numbers, tables: &mut Tables) {
     for place in [3, 4, 5] {
         let mut name = b"zz".to_vec();
         if places.contains(&place) {
-            name = ONCE[NAME].to_vec();
-            for octet in &mut name {
-                if numbers.once_in(2) {
-                    octet.make_ascii_uppercase();
-                }
-            }
+            name = cased(numbers, ONCE[NAME]);
         }
         let span = append(tables, &name);
         set_name(tables, place, span);
