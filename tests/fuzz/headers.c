@@ -1,4 +1,4 @@
-/* A libFuzzer target: headers read, written, read back and joined, held to the laws. It needs no second reader.
+/* A libFuzzer target: headers read, written, read back and joined, held to the laws, and codes of names. It needs no second reader.
    The library has no instrumentation; what guides the fuzzer are the answers: a malformed header's place that grows, counts that are
    new. README.md says how to run it. */
 #include "capstan.h"
@@ -6,7 +6,7 @@
 
 enum { LIMIT = 8192, LINKS = LIMIT / 2, PARAMS = LIMIT / 2, COUNTERS = 4096 };
 
-__attribute__((section("__libfuzzer_extra_counters"))) static uint8_t counters[4 * COUNTERS];
+__attribute__((section("__libfuzzer_extra_counters"))) static uint8_t counters[5 * COUNTERS];
 
 static void seen(size_t kind, size_t what) {
   if (what < COUNTERS) counters[kind * COUNTERS + what] = 1;
@@ -18,7 +18,7 @@ typedef struct {
   capstan_read_answer answer;
 } reading;
 
-static uint8_t *text_end, *link_end, *param_end, *out_end;
+static uint8_t *text_end, *link_end, *param_end, *out_end, *name_end;
 
 /* Reads in so many slots and looks at everything lent. The text is lent anew, so there is one reading at a time. */
 static reading read_in(const uint8_t *header, size_t length, size_t links, size_t params) {
@@ -122,17 +122,60 @@ static void value_law(reading r) {
   }
 }
 
+/* The code as a list of the names says it. */
+static size_t listed_code(const uint8_t *name, size_t length) {
+  static const char *const names[] = {"rel", "anchor", "media", "title", "title*", "type", "hreflang", "rev"};
+  for (size_t i = 0; i < sizeof names / sizeof *names; i++) {
+    size_t same = 0;
+    if (strlen(names[i]) != length) continue;
+    while (same < length && (name[same] >= 'A' && name[same] <= 'Z' ? name[same] + 32 : name[same]) == names[i][same]) same++;
+    if (same == length) return i + 1;
+  }
+  return 0;
+}
+
+/* The name is lent anew, so that nothing of the text stands behind it. */
+static size_t code_of(const uint8_t *name, size_t length) {
+  uint8_t *lent = memcpy(name_end - length, name, length);
+  size_t code = capstan_name_code(lent, length);
+  MUST(code == listed_code(name, length));
+  MUST(memcmp(lent, name, length) == 0);
+  return code;
+}
+
+/* With this bit flipped letters are in the other case, and other octets are others. */
+static void flipped_law(const uint8_t *name, size_t length) {
+  static uint8_t flipped[LIMIT];
+  for (size_t i = 0; i < length; i++) flipped[i] = name[i] ^ 32;
+  code_of(flipped, length);
+}
+
+/* Of the codes up to that of `type` a link has one parameter each at most. */
+static void code_law(reading r) {
+  for (size_t link = 0; link < r.answer.links; link++) {
+    size_t had[9] = {0}, *param = r.params + 5 * r.links[4 * link + 2];
+    for (size_t place = 0; place < r.links[4 * link + 3]; place++, param += 5) {
+      size_t code = code_of(r.text + param[0], param[1] - param[0]);
+      MUST(++had[code] == 1 || code == 0 || code > 6);
+      if (code > 0) seen(4, 16 * code + (had[code] < 16 ? had[code] : 15));
+      flipped_law(r.text + param[0], param[1] - param[0]);
+    }
+  }
+}
+
 int LLVMFuzzerInitialize(int *argc, char ***argv) {
   (void)argc, (void)argv;
   text_end = lent_end(2 * LIMIT);
   link_end = lent_end(4 * LINKS * sizeof(size_t));
   param_end = lent_end(5 * PARAMS * sizeof(size_t));
   out_end = lent_end(LIMIT);
+  name_end = lent_end(2 * LIMIT);
   return 0;
 }
 
 int LLVMFuzzerTestOneInput(const uint8_t *header, size_t length) {
   if (length > 2 * LIMIT) return -1;
+  seen(4, code_of(header, length));
   capstan_read_answer a = read_amply(header, length).answer;
   MUST((a.number == 1) == (length > LIMIT));
   if (a.number == 2) {
@@ -145,6 +188,7 @@ int LLVMFuzzerTestOneInput(const uint8_t *header, size_t length) {
     join_law(header, length, a);
     reading r = read_amply(header, length);
     if (a.params <= 64) value_law(r);
+    code_law(r);
     write_law(r);
   }
   return 0;
