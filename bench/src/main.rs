@@ -10,6 +10,7 @@ mod growth;
 mod headers;
 mod independent;
 mod library;
+mod names;
 
 fn main() {
     entries::print();
@@ -19,4 +20,6 @@ fn main() {
     feeding::print();
     println!();
     growth::print_feeding();
+    println!();
+    names::print();
 }
