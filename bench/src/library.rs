@@ -75,13 +75,11 @@ pub fn write(table: &Table, out: &mut [u8]) -> (usize, usize) {
 }
 
 extern "C" {
-    fn capstan_name_code(name: *const u8, name_len: usize) -> usize;
     fn table_loop(text: *const u8, length: usize) -> usize;
 }
 
 pub fn name_code(name: &[u8]) -> usize {
-    // SAFETY: the entry reads as many octets as it is told, and the slice has them.
-    unsafe { capstan_name_code(black_box(name.as_ptr()), name.len()) }
+    ffi::name_code(black_box(name))
 }
 
 pub fn commas(text: &[u8]) -> usize {

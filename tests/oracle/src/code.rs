@@ -1,7 +1,7 @@
 //! The codes of parameters' names.
 
 /// The known names, in the order of their codes.
-const KNOWN: [&[u8]; 8] = [
+const KNOWN: &[&[u8]] = &[
     b"rel",
     b"anchor",
     b"media",

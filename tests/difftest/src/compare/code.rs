@@ -6,15 +6,7 @@ use crate::lent::Lent;
 use crate::reached::Entry;
 use crate::run::Run;
 use crate::shown;
-
-extern "C" {
-    fn capstan_name_code(name: *const u8, name_len: usize) -> usize;
-}
-
-fn of_library(name: &[u8]) -> usize {
-    // SAFETY: the pointer comes with its slice's length, and the entry only reads so many octets.
-    unsafe { capstan_name_code(name.as_ptr(), name.len()) }
-}
+use capstanbar::ffi;
 
 /// The code of a name that stands in lent memory.
 pub fn name_code(run: &mut Run, name: &[u8]) -> Compared<usize> {
@@ -28,7 +20,7 @@ pub fn name_code(run: &mut Run, name: &[u8]) -> Compared<usize> {
 /// The code of a name that stands where it is, so that what is round it may tempt.
 pub fn name_code_of(run: &mut Run, name: &[u8]) -> Compared<usize> {
     let asked = || format!("code of {}", shown::octets(name));
-    let code = of_library(name);
+    let code = ffi::name_code(name);
     run.reached.count(Entry::NameCode, code);
     equal(asked, code, oracle::name_code(name))?;
     Ok(code)
