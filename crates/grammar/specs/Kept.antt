@@ -41,7 +41,7 @@ codeFrom (m ∷ ms) k n = cond (same n m) k (codeFrom ms (suc k) n)
 unfoldable pub codeOf : List ℕ → ℕ
 codeOf n = codeFrom knownNames 1 n
 
--- kept once: codes 1 to 6, and nothing else
+-- the codes of names kept once
 abbrev pub onceCode : ℕ → Bool
 onceCode k = between 1 6 k
 

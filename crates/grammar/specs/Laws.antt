@@ -61,7 +61,8 @@ pub record Codes : Type 0 where
   pub hreflang : codeOf (octets "hreflang") ≡ 7
   pub rev : codeOf (octets "rev") ≡ 8
 
--- Of a name with a code from 1 to 6 the first parameter is kept, of all other names each one. Those six names are `only` these.
+-- Of a name with a code from 1 to 6 the first parameter is kept, of all other names, `hreflang` and `rev` among them, each one. `only`:
+-- the names kept once are the six that they were when no other name had a code.
 pub record Keeps : Type 0 where
   pub once : (s n : List ℕ) (ps : List Param) → between 1 6 (codeOf n) ≡ true
       → ofName s n (keepAfter s [] ps) ≡ firstOnly (ofName s n ps)

@@ -2,7 +2,7 @@
 use Prim.Native.Nat.{ℕ, zero, suc, _+_, _-_, _*_, _/_, _%_, _≤_, _<_}
 use native.Mathlib.Omega.{arith}
 use mathlib.Core.Path.{_≡_, refl, sym, ap, _∙_}
-use mathlib.Core.Bool.{Bool, true, false, not, _&&_, _||_}
+use mathlib.Core.Bool.{true, false, not, _||_}
 use mathlib.Core.List.{List, [], _∷_}
 use lib.Bits.{bitOr, or-step, or-lt}
 use lib.Dec.{leb, eqb}
@@ -10,10 +10,10 @@ use lib.ListN.{length, take, drop, getD, length-drop}
 use lib.Seq.{take-all}
 use borrow.Author.Tests.{leb-true, eqb-true, eq-eqb}
 use Rattle.octets.specs.Sets.{between}
-use Rattle.octets.specs.Fold.{fold, folded, same, sameFolded}
-use Rattle.octets.proofs.Laws.{same-sound, same-false}
+use Rattle.octets.specs.Fold.{fold, folded, sameFolded}
+use Rattle.octets.proofs.Laws.{same-false}
 use Rattle.octets.proofs.Octets.{every, every-at, only-if}
-use Rattle.names.specs.First.{low, Packed, First, Lettered}
+use Rattle.names.specs.First.{low, First, Lettered}
 use Rattle.names.proofs.Deciding.{low-told}
 
 -- bits set in places further up
@@ -53,6 +53,11 @@ fourth-low c =
 
 pub low-small : (c : ℕ) → c < 256 → low c < 256
 low-small c h = or-lt 8 c 32 h (omega arith)
+
+-- so four of them make a number below 2 ^ 32
+pub small-sum : (a b c d : ℕ) → a < 256 → b < 256 → c < 256 → d < 256
+    → low a + low b * 256 + low c * 65536 + low d * 16777216 < 4294967296
+small-sum a b c d h k l m = omega (arith, low-small a h, low-small b k, low-small c l, low-small d m)
 
 -- ---- what the number tells
 

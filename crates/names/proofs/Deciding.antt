@@ -2,9 +2,8 @@
 use Prim.Native.Nat.{ℕ, suc, _+_, _-_}
 use native.Mathlib.Omega.{arith}
 use mathlib.Core.Path.{_≡_, refl, sym, ap, subst, _∙_}
-use mathlib.Core.Bool.{Bool, true, false, cond, not, _&&_, _||_, true≢false}
+use mathlib.Core.Bool.{Bool, true, false, cond, not, _||_, true≢false}
 use mathlib.Core.List.{List, []}
-use lib.Bits.{bitOr}
 use lib.Dec.{eqb}
 use lib.ListN.{length, getD, length-map, List·getD-map}
 use borrow.Author.Tests.{eqb-true, eqb-false, eq-eqb, ne-eqb}
@@ -14,6 +13,7 @@ use Rattle.octets.proofs.Laws.{same-sound}
 use Rattle.octets.proofs.Octets.{every, every-at, only-if, between-bounds}
 use Rattle.grammar.specs.Kept.{knownNames, codeOf}
 use Rattle.grammar.proofs.Codes.{codes, code-same}
+use Rattle.names.specs.First.{low}
 
 -- p holds of no known name but the one of code k
 abbrev pub leaves : (List ℕ → Bool) → ℕ → Bool
@@ -24,23 +24,23 @@ abbrev pub long : ℕ → List ℕ → Bool
 long l m = eqb (length m) l
 
 abbrev pub lowAt : ℕ → ℕ → List ℕ → Bool
-lowAt i d m = eqb (bitOr (getD m i 0) 32) d
+lowAt i d m = eqb (low (getD m i 0)) d
 
 -- both are told by the name as it is written
 fold-at : (n : List ℕ) (i : ℕ) → getD (folded n) i 0 ≡ fold (getD n i 0)
 unfolding fold
 fold-at n i = List·getD-map fold n i 0
 
-low-fold : (c : ℕ) → bitOr (fold c) 32 ≡ bitOr c 32
+low-fold : (c : ℕ) → low (fold c) ≡ low c
 unfolding fold
 low-fold c = go (between 65 90 c) refl
   where
-    go : (b : Bool) → between 65 90 c ≡ b → bitOr (cond (between 65 90 c) (c + 32) c) 32 ≡ bitOr c 32
+    go : (b : Bool) → between 65 90 c ≡ b → low (cond (between 65 90 c) (c + 32) c) ≡ low c
     go true e =
         rw e
-        (eqb-true (bitOr (c + 32) 32) (bitOr c 32)
-        (only-if (between 65 90 c) (eqb (bitOr (c + 32) 32) (bitOr c 32))
-        (every-at (λ d. not (between 65 90 d) || eqb (bitOr (d + 32) 32) (bitOr d 32)) 91 refl c (omega (arith, between-bounds 65 90 c e .1)))
+        (eqb-true (low (c + 32)) (low c)
+        (only-if (between 65 90 c) (eqb (low (c + 32)) (low c))
+        (every-at (λ d. not (between 65 90 d) || eqb (low (d + 32)) (low d)) 91 refl c (omega (arith, between-bounds 65 90 c e .1)))
         e))
     go false e = rw e
 
@@ -51,15 +51,15 @@ module _ (n : List ℕ) {l : ℕ} where
   pub not-long : (length n ≡ l → ⊥) → long l (folded n) ≡ false
   not-long h = ne-eqb (length (folded n)) l (λ e. h (sym (length-map n fold) ∙ e))
 
-pub low-told : (n : List ℕ) (i : ℕ) → bitOr (getD (folded n) i 0) 32 ≡ bitOr (getD n i 0) 32
-low-told n i = ap (λ (c : ℕ). bitOr c 32) (fold-at n i) ∙ low-fold (getD n i 0)
+pub low-told : (n : List ℕ) (i : ℕ) → low (getD (folded n) i 0) ≡ low (getD n i 0)
+low-told n i = ap low (fold-at n i) ∙ low-fold (getD n i 0)
 
 module _ (n : List ℕ) (i : ℕ) {d : ℕ} where
-  pub is-low : bitOr (getD n i 0) 32 ≡ d → lowAt i d (folded n) ≡ true
-  is-low e = eq-eqb (bitOr (getD (folded n) i 0) 32) d (low-told n i ∙ e)
+  pub is-low : low (getD n i 0) ≡ d → lowAt i d (folded n) ≡ true
+  is-low e = eq-eqb (low (getD (folded n) i 0)) d (low-told n i ∙ e)
 
-  pub not-low : (bitOr (getD n i 0) 32 ≡ d → ⊥) → lowAt i d (folded n) ≡ false
-  not-low h = ne-eqb (bitOr (getD (folded n) i 0) 32) d (λ e. h (sym (low-told n i) ∙ e))
+  pub not-low : (low (getD n i 0) ≡ d → ⊥) → lowAt i d (folded n) ≡ false
+  not-low h = ne-eqb (low (getD (folded n) i 0)) d (λ e. h (sym (low-told n i) ∙ e))
 
 module _ (n : List ℕ) (p : List ℕ → Bool) (h : p (folded n) ≡ true) where
   -- so a known name of which p holds has the code k

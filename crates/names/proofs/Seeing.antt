@@ -8,15 +8,11 @@ use lib.Bits.{bitAnd, or-zero-r}
 use lib.Dec.{eqb, ltb}
 use borrow.Author.Tests.{eqb-true, eqb-false, ltb-true, ne-eqb}
 use Rattle.octets.specs.Fold.{same}
-use Rattle.octets.proofs.Octets.{both, every, every-at, only-if, agree, agreed, between-bounds}
+use Rattle.octets.proofs.Octets.{both, every, every-at, only-if, unless-so, agree, agreed, between-bounds}
 use Rattle.grammar.specs.Kept.{among, codeOf, onceCode, isOnce}
 use Rattle.grammar.proofs.Codes.{code-bound, code-same, code-other}
 use Rattle.names.specs.Remembers.{noneSeen, hasCode, withCode, onceBits, Remembers}
 use Rattle.names.specs.declared.Seen.{Seen}
-
-unless-so : (a b : Bool) → (a || b) ≡ true → a ≡ false → b ≡ true
-unless-so true b e h = absurd (false≢true (sym h))
-unless-so false b e h = e
 
 -- codes are below 32, the count of the bits
 small : (n : List ℕ) → codeOf n < 32
@@ -26,6 +22,15 @@ abbrev seen : ℕ → Seen
 seen m = record { marks = m }
 
 -- ---- what holds of every mark and every code, by one test that is computed at each
+
+-- a code that is not kept once leaves no mark
+no-mark : (x : Seen) (c : ℕ) → c < 32 → onceCode c ≡ false → withCode x c .marks ≡ x .marks
+unfolding withCode
+no-mark x c l o =
+    rw (eqb-true (bitAnd (2 ^ (c % 32)) 126) 0
+    (unless-so (onceCode c) (eqb (bitAnd (2 ^ (c % 32)) 126) 0)
+    (every-at (λ d. onceCode d || eqb (bitAnd (2 ^ (d % 32)) 126) 0) 32 refl c l) o))
+    (or-zero-r (x .marks))
 
 -- no other bit but of a code kept once is asked
 module _ (x : Seen) (f : onceBits (x .marks) ≡ true) where
@@ -44,16 +49,7 @@ module _ (x : Seen) (f : onceBits (x .marks) ≡ true) where
       k l)
       o)
 
-  -- a code that is not kept once leaves no mark
-  no-mark : (c : ℕ) → c < 32 → onceCode c ≡ false → withCode x c .marks ≡ x .marks
-  unfolding withCode
-  no-mark c l o =
-      rw (eqb-true (bitAnd (2 ^ (c % 32)) 126) 0
-      (unless-so (onceCode c) (eqb (bitAnd (2 ^ (c % 32)) 126) 0)
-      (every-at (λ d. onceCode d || eqb (bitAnd (2 ^ (d % 32)) 126) 0) 32 refl c l) o))
-      (or-zero-r (x .marks))
-
-  -- and one that is kept once leaves its own, and no other
+  -- a code that is kept once leaves its own mark, and no other
   module _ (c : ℕ) (o : onceCode c ≡ true) where
     code-small : c < 7
     code-small = omega (arith, between-bounds 1 6 c o .1)
@@ -100,7 +96,7 @@ fits-with x f c l = go (onceCode c) refl
   where
     go : (b : Bool) → onceCode c ≡ b → onceBits (withCode x c .marks) ≡ true
     go true o = mark-fits x f c o
-    go false o = rw (no-mark x f c l o) f
+    go false o = rw (no-mark x c l o) f
 
 has-with : (x : Seen) → onceBits (x .marks) ≡ true → (c : ℕ) → c < 32 → (k : ℕ) → onceCode k ≡ true
     → hasCode (withCode x c) k ≡ (hasCode x k || eqb c k)
@@ -110,7 +106,7 @@ has-with x f c l k q = go (onceCode c) refl
     go : (b : Bool) → onceCode c ≡ b → hasCode (withCode x c) k ≡ (hasCode x k || eqb c k)
     go true o = has-mark x f c o k q
     go false o =
-        rw (no-mark x f c l o, ne-eqb c k (λ e. false≢true (sym o ∙ ap onceCode e ∙ q)))
+        rw (no-mark x c l o, ne-eqb c k (λ e. false≢true (sym o ∙ ap onceCode e ∙ q)))
         (sym (or-false (hasCode x k)))
 
 -- at the start of a link

@@ -50,14 +50,15 @@ impl Seen {
     }
 }
 
-// The code k if n is the name m, and else none.
+// The code k if n is the name m, and else 0.
 fn only(n: &[u8], m: &[u8], k: u8) -> u8
     ensures { λ r. ⌜ r ≡ cond (sameFolded (now (n .entry)) (now (m .entry))) k 0 ⌝ }
 {
     if same_folded(n, m) { k } else { 0 }
 }
 
-// Four octets as one number, the first one lowest, with the bit set in each that parts small letters from capitals.
+// Four octets as one number, the first one lowest, with the bit set in each that parts small letters from capitals. Set behind the
+// shifts, the bits don't keep the compiler from loading all four at once.
 fn packed(a: u8, b: u8, c: u8, d: u8) -> u32
     ensures { λ r. ⌜ Packed a b c d r ⌝ }
 {
@@ -67,7 +68,7 @@ fn packed(a: u8, b: u8, c: u8, d: u8) -> u32
         + (d as u32 * 16777216 | 536870912)
 }
 
-// The first four octets so.
+// The first four octets of a name as one number.
 fn first(n: &[u8]) -> u32
     requires { ⌜ 4 ≤ length (now n) ⌝ }
     ensures { λ r. ⌜ First (now (n .entry)) r ⌝ }
@@ -75,7 +76,7 @@ fn first(n: &[u8]) -> u32
     packed(n[0], n[1], n[2], n[3])
 }
 
-// The same for a name m that begins with four letters, which are compared at once.
+// As `only`, for a name m that begins with four letters, which are compared at once.
 fn only_long(n: &[u8], m: &[u8], k: u8) -> u8
     requires { ⌜ 4 ≤ length (now n) ⌝ }
     requires { ⌜ Lettered (now m) ⌝ }
@@ -124,7 +125,7 @@ pub fn code(s: &[u8], name: Span) -> u8
     known(&s[from..to])
 }
 
-// The code of a name by itself.
+// The code of a name by itself: the span of all of it is asked, so that one compiled function serves all callers.
 pub fn code_of(n: &[u8]) -> u8
     ensures { λ r. ⌜ r ≡ codeOf (folded (now (n .entry))) ⌝ }
 {

@@ -5,7 +5,7 @@ use native.Mathlib.Omega.{arith}
 use mathlib.Core.Logic.{⊎-elim}
 use mathlib.Core.Bool.{Bool, true, false, not, _&&_, _||_, false≢true, and-eq-true-iff}
 use mathlib.Core.List.{List, [], _∷_}
-use mathlib.Core.Path.{_≡_, refl}
+use mathlib.Core.Path.{_≡_, refl, sym}
 use lib.Dec.{leb, ltb, eqb}
 use borrow.Author.Tests.{leb-true, ltb-true, eqb-true}
 use Rattle.octets.specs.Sets.{between, oneOf}
@@ -32,6 +32,11 @@ Octets f = (c : ℕ) → f c ≡ true → c < 256
 pub only-if : (a b : Bool) → (not a || b) ≡ true → a ≡ true → b ≡ true
 only-if true b e h = e
 only-if false b e h = absurd (false≢true h)
+
+-- and one that passes wherever another does not
+pub unless-so : (a b : Bool) → (a || b) ≡ true → a ≡ false → b ≡ true
+unless-so true b e h = absurd (false≢true (sym h))
+unless-so false b e h = e
 
 -- what is in f is in g, where that holds of every octet
 pub within : (f g : ℕ → Bool) → Octets f → every (λ c. not (f c) || g c) 256 ≡ true → (c : ℕ) → f c ≡ true → g c ≡ true

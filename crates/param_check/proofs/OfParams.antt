@@ -19,7 +19,7 @@ use Rattle.part_check.specs.Decides.{Decides}
 use Rattle.param_check.specs.Params.{GoodParams}
 use Rattle.part_check.proofs.Deciding.{is-so, not-so}
 
--- the parameter p repeats one of the six names
+-- the parameter p repeats a name kept once
 abbrev repeats : List ℕ → List (List ℕ) → Param → Bool
 repeats s earlier p = isOnce (nameOf s p) && among earlier (nameOf s p)
 

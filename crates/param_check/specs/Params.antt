@@ -6,7 +6,7 @@ use mathlib.Core.List.{List}
 use Rattle.grammar.specs.Link.{Param}
 use Rattle.tables.specs.Good.{Each, GoodParam, onceEach}
 
--- parameters that follow those of the names `earlier` in a link: each is good, and none repeats one of the six names
+-- parameters that follow those of the names `earlier` in a link: each is good, and none repeats a name kept once
 pub record GoodParams (s : List ℕ) (earlier : List (List ℕ)) (ps : List Param) : Type 0 where
   pub each : Each (GoodParam s) ps
   pub once : onceEach s earlier ps ≡ true

@@ -43,7 +43,7 @@ fn is_good_param(s: &[u8], p: ParamRecord) -> bool
     false
 }
 
-// Whether `count` parameters from `first` on are good, and no two of them share one of the six names.
+// Whether `count` parameters from `first` on are good, and no two of them share a name kept once.
 pub fn are_good_params(s: &[u8], slots: &[usize], first: ParamNumber, count: usize) -> bool
     requires { ⌜ first .0 + count ≤ paramRoom (now slots) ⌝ }
     ensures { λ r. ⌜ Decides r (GoodParams (now (s .entry)) [] (paramsFrom (now (slots .entry)) (first .0) count)) ⌝ }

@@ -94,9 +94,9 @@ module _ (s : List ℕ) where
       go true k = k
       go false k = each-more g k
 
-  -- ---- the kept parameters have none of the six names twice
+  -- ---- the kept parameters have no name kept once twice
 
-  -- two lists of names hold the same of the six names
+  -- two lists of names hold the same names kept once
   Agree : List (List ℕ) → List (List ℕ) → Type 0
   Agree A B = (n : List ℕ) → isOnce n ≡ true → among A n ≡ among B n
 

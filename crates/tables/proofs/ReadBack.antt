@@ -96,7 +96,7 @@ module _ (s : List ℕ) where
 
 -- ---- of its parameters all are kept
 
--- no two of the meanings, nor one of them and one of the names `earlier`, share one of the six names
+-- no two of the meanings, nor one of them and one of the names `earlier`, share a name kept once
 onceOf : List (List ℕ) → List ParamMeaning → Bool
 onceOf earlier [] = true
 onceOf earlier (m ∷ ms) = not (isOnce (m .name) && among earlier (m .name)) && onceOf (m .name ∷ earlier) ms

@@ -23,7 +23,7 @@ abbrev pub Follows : List ℕ → ℕ → ℕ → ℕ → ℕ → Type 0
 Follows L i zero at m = at ≡ m
 Follows L i (suc n) at m = (firstOf L i ≡ at) × Follows L (suc i) n (at + countOf L i) m
 
--- no two of the parameters, nor one of them and one of the names `earlier`, share one of the six names
+-- no two of the parameters, nor one of them and one of the names `earlier`, share a name kept once
 abbrev pub onceEach : List ℕ → List (List ℕ) → List Param → Bool
 onceEach s earlier [] = true
 onceEach s earlier (p ∷ ps) =
@@ -48,7 +48,7 @@ module _ (s : List ℕ) where
     pub name : Token s (p .nameFrom) (p .nameTo)
     pub value : GoodValue p
 
-  -- the target's span lies in the text and obeys the grammar, so do the parameters, and no two share one of the six names
+  -- the target's span lies in the text and obeys the grammar, so do the parameters, and no two share a name kept once
   pub record GoodLink (l : Link) : Type 0 where
     pub target-span : InText (l .targetFrom) (l .targetTo)
     pub target : Target s (l .targetFrom) (l .targetTo)

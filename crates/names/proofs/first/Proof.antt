@@ -1,5 +1,4 @@
 -- All four stand in the name.
-use native.Mathlib.Omega.{arith}
 use borrow.Author.Needs.{needs}
 use Rattle.names.proofs.first.Statement.{statement}
 use Rattle.names.proofs.first.Tie as tie

@@ -1,5 +1,5 @@
 -- As the number of the first four octets tells, and the comparison of those behind them.
-use mathlib.Core.Path.{sym, _∙_}
+use mathlib.Core.Path.{_∙_}
 use borrow.Author.Needs.{needs}
 use Rattle.names.proofs.Beginning.{rest-told, other-told, behind}
 use Rattle.names.proofs.only_long.Statement.{statement}
