@@ -11,6 +11,7 @@ mod reading;
 use crate::shown::Difference;
 pub use asked::Asked;
 pub use code::{name_code, name_code_of};
+pub use equal::equal;
 pub use feed::{Expected, Fed};
 pub use frame::{feed_any, finish_any};
 pub use read::read;

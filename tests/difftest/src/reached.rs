@@ -1,6 +1,9 @@
 //! Which numbers each entry answered, and how often; and the codes of names that a link has again.
 
+use oracle::{LAST_CODE, LAST_ONCE};
+use std::collections::BTreeMap;
 use std::fmt::Write;
+use std::ops::RangeInclusive;
 
 #[derive(Clone, Copy)]
 pub enum Entry {
@@ -15,29 +18,43 @@ pub enum Entry {
     Again,
 }
 
-const ENTRIES: [(Entry, &str, &[usize]); 9] = [
-    (Entry::Read, "read", &[0, 1, 2, 3, 4]),
-    (Entry::Feed, "feed", &[0, 1, 2, 7]),
-    (Entry::Finish, "finish", &[0, 1, 2, 3, 4, 7]),
-    (Entry::Search, "search", &[0, 1, 5, 9]),
-    (Entry::Context, "context", &[0, 1, 5, 8]),
-    (Entry::Value, "value", &[0, 1, 5, 7, 8, 9]),
-    (Entry::Write, "write", &[0, 1, 5, 6, 7, FORM_TOO_LONG]),
-    (Entry::NameCode, "name_code", &[0, 1, 2, 3, 4, 5, 6, 7, 8]),
-    (Entry::Again, "name_code of a name again", &[0, 7, 8]),
+/// The numbers that an entry may answer.
+type Allowed = &'static [RangeInclusive<usize>];
+
+const ENTRIES: [(Entry, &str, Allowed); 9] = [
+    (Entry::Read, "read", &[0..=4]),
+    (Entry::Feed, "feed", &[0..=2, 7..=7]),
+    (Entry::Finish, "finish", &[0..=4, 7..=7]),
+    (Entry::Search, "search", &[0..=1, 5..=5, 9..=9]),
+    (Entry::Context, "context", &[0..=1, 5..=5, 8..=8]),
+    (Entry::Value, "value", &[0..=1, 5..=5, 7..=9]),
+    (
+        Entry::Write,
+        "write",
+        &[0..=1, 5..=7, FORM_TOO_LONG..=FORM_TOO_LONG],
+    ),
+    (Entry::NameCode, "name_code", &[0..=LAST_CODE]),
+    (
+        Entry::Again,
+        "name_code of a name again",
+        &[0..=0, LAST_ONCE + 1..=LAST_CODE],
+    ),
 ];
 
 /// Stands for number 1 where the written form is too long, and not the text.
-pub const FORM_TOO_LONG: usize = 10;
+pub const FORM_TOO_LONG: usize = usize::MAX;
 
+/// How often each entry answered each number.
 #[derive(Default)]
-pub struct Reached([[u64; 11]; ENTRIES.len()]);
+pub struct Reached([BTreeMap<usize, u64>; ENTRIES.len()]);
 
 impl Reached {
     pub fn count(&mut self, entry: Entry, number: usize) {
-        if let Some(times) = self.0[entry as usize].get_mut(number) {
-            *times += 1;
-        }
+        *self.0[entry as usize].entry(number).or_default() += 1;
+    }
+
+    fn times(&self, entry: Entry, number: usize) -> u64 {
+        self.0[entry as usize].get(&number).copied().unwrap_or(0)
     }
 
     /// Each entry with its numbers and how often they were answered.
@@ -45,12 +62,8 @@ impl Reached {
         let mut line = String::from("answered:");
         for (entry, name, allowed) in ENTRIES {
             let _ = write!(line, " {name}");
-            for &number in allowed {
-                let times = self.0[entry as usize][number];
-                let _ = match number {
-                    FORM_TOO_LONG => write!(line, " 1(form):{times}"),
-                    _ => write!(line, " {number}:{times}"),
-                };
+            for number in allowed.iter().cloned().flatten() {
+                let _ = write!(line, " {}:{}", shown(number), self.times(entry, number));
             }
             line.push(';');
         }
@@ -60,14 +73,23 @@ impl Reached {
     /// A number that the rules allow and that was never answered, or one that they don't allow.
     pub fn wrong(&self) -> Option<String> {
         for (entry, name, allowed) in ENTRIES {
-            for (number, &times) in self.0[entry as usize].iter().enumerate() {
-                match (allowed.contains(&number), times) {
-                    (true, 0) => return Some(format!("{name} never answered {number}")),
-                    (false, 1..) => return Some(format!("{name} answered {number}")),
-                    _ => {}
-                }
+            let mut due = allowed.iter().cloned().flatten();
+            if let Some(number) = due.find(|&number| self.times(entry, number) == 0) {
+                return Some(format!("{name} never answered {}", shown(number)));
+            }
+            let mut answered = self.0[entry as usize].keys();
+            let is_allowed = |number| allowed.iter().any(|range| range.contains(number));
+            if let Some(&number) = answered.find(|number| !is_allowed(number)) {
+                return Some(format!("{name} answered {}", shown(number)));
             }
         }
         None
+    }
+}
+
+fn shown(number: usize) -> String {
+    match number {
+        FORM_TOO_LONG => String::from("1(form)"),
+        _ => number.to_string(),
     }
 }

@@ -1,13 +1,15 @@
 //! What the crate's view of a table hands out.
 
-use crate::compare::Compared;
+mod lookups;
+
+use crate::compare::{equal, Compared};
 use crate::shown::{self, Difference};
 use crate::tables::Tables;
 use capstanbar::{Counts, Table};
 use oracle::LinkMeaning;
 
-/// The view is there exactly of good tables of texts that aren't too long, and hands out the records'
-/// octets.
+/// The view is there exactly of good tables of texts that aren't too long, hands out the records'
+/// octets, and finds parameters by their names.
 pub fn compare(tables: &Tables, meanings: Option<&[LinkMeaning]>) -> Compared<()> {
     let counts = Counts {
         links: tables.link_count,
@@ -23,13 +25,16 @@ pub fn compare(tables: &Tables, meanings: Option<&[LinkMeaning]>) -> Compared<()
         Ok(table) => Ok(table.links().map(meaning).collect::<Vec<_>>()),
         Err(refusal) => Err(refusal.number()),
     };
-    if seen == expected {
+    let view = || format!("view of {}", shown::table(tables.raw()));
+    equal(view, &seen, &expected)?;
+    let (Ok(table), Ok(meanings)) = (table, expected) else {
         return Ok(());
-    }
-    Err(Difference {
-        asked: format!("view of {}", shown::table(tables.raw())),
-        library: format!("{seen:?}"),
-        expected: format!("{expected:?}"),
+    };
+    let mut links = table.links().zip(&meanings);
+    let found = links.try_for_each(|(link, meaning)| lookups::compare(link, meaning));
+    found.map_err(|difference| Difference {
+        asked: format!("{} in the {}", difference.asked, view()),
+        ..difference
     })
 }
 

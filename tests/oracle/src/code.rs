@@ -12,9 +12,12 @@ const KNOWN: &[&[u8]] = &[
     b"rev",
 ];
 
+/// The codes of known names go from 1 to this one.
+pub const LAST_CODE: usize = KNOWN.len();
+
 /// Of the known names up to this code only the first parameter of a link is
 /// kept.
-const LAST_ONCE: usize = 6;
+pub const LAST_ONCE: usize = 6;
 
 /// Whether two names are the same, A to Z folded to a to z.
 pub fn same_name(one: &[u8], other: &[u8]) -> bool {

@@ -8,9 +8,10 @@ const REFUSED: usize = 0;
 pub const TEXT: usize = 1;
 const BASE: usize = 2;
 
-/// The number; what the context is a part of (1 the text, 2 the base, 0 if
-/// refused); and its start and end there. It is the `anchor` value span as
-/// written, also when empty, else the whole base. Numbers in order: 1, 5, 8.
+/// Answers the number, where to look (1 in the text, 2 in the base, 0 nowhere,
+/// since it was refused), and from which place to which. An `anchor` gives the
+/// bounds of its raw value, even if nothing is between them; without one all of
+/// the base is meant. A refusal is the first of 1, 5 and 8 that applies.
 pub fn context(
     text: &[u8],
     base: &[u8],

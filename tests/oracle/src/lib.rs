@@ -33,7 +33,7 @@ mod value;
 mod vectors;
 mod write;
 
-pub use code::name_code;
+pub use code::{name_code, LAST_CODE, LAST_ONCE};
 pub use context::context;
 pub use feeding::Feeding;
 pub use listing::listing;

@@ -67,8 +67,8 @@ fn without_backslashes(octets: &[u8]) -> Vec<u8> {
 }
 
 impl LinkMeaning {
-    /// The link's relations, folded: the longest runs of octets other than SP
-    /// in the meaning of its `rel` value.
+    /// The words of its `rel`, in small letters: the value without its
+    /// backslashes is split at each space, and empty pieces are dropped.
     pub fn relations(&self) -> Vec<Vec<u8>> {
         let rel = self.params.iter().find(|param| param.name == b"rel");
         rel.map_or(&[][..], |rel| &rel.value)

@@ -129,10 +129,10 @@ impl Maker<'_> {
 
     fn name(&mut self) {
         let word = match self.numbers.below(10) {
-            0 => self.numbers.of(&UNKNOWN),
-            1 | 2 => self.numbers.of(&ALWAYS),
+            0 => self.numbers.of(UNKNOWN),
+            1 | 2 => self.numbers.of(ALWAYS),
             3 | 4 => b"rel",
-            5..8 => self.numbers.of(&ONCE),
+            5..8 => self.numbers.of(ONCE),
             _ => return self.token(),
         };
         let name = cased(self.numbers, word);

@@ -26,13 +26,13 @@ pub fn is_plain(octet: u8) -> bool {
 }
 
 /// Names of which only the first in a link is kept.
-pub const ONCE: [&[u8]; 6] = [b"rel", b"anchor", b"media", b"title", b"title*", b"type"];
+pub const ONCE: &[&[u8]] = &[b"rel", b"anchor", b"media", b"title", b"title*", b"type"];
 
 /// Known names that are kept each time.
-pub const ALWAYS: [&[u8]; 2] = [b"hreflang", b"rev"];
+pub const ALWAYS: &[&[u8]] = &[b"hreflang", b"rev"];
 
 /// Other names, most of them nearly a known one.
-pub const UNKNOWN: [&[u8]; 12] = [
+pub const UNKNOWN: &[&[u8]] = &[
     b"re", b"relx", b"rel*", b"anchors", b"medi", b"title**", b"titl", b"typ", b"revs", b"hreflan",
     b"*", b"x",
 ];

@@ -45,9 +45,9 @@ fn soup(numbers: &mut Numbers) -> (Vec<u8>, Vec<[usize; 2]>) {
     put_word(&mut text, cased(numbers, b"rel"));
     for _ in 0..4 + numbers.below(8) {
         let word = match numbers.below(4) {
-            0 => numbers.of(&UNKNOWN),
-            1 => numbers.of(&ALWAYS),
-            _ => numbers.of(&ONCE),
+            0 => numbers.of(UNKNOWN),
+            1 => numbers.of(ALWAYS),
+            _ => numbers.of(ONCE),
         };
         let word = cased(numbers, word);
         text.extend(header::derive(numbers, header::SHORT).header);
@@ -57,7 +57,7 @@ fn soup(numbers: &mut Numbers) -> (Vec<u8>, Vec<[usize; 2]>) {
     (text, words)
 }
 
-/// A name that isn't one of the six if the link has it already.
+/// A name that isn't kept once if the link has it already.
 fn free_name(
     numbers: &mut Numbers,
     text: &[u8],
@@ -74,7 +74,7 @@ fn free_name(
         if !(ONCE.contains(&&folded[..]) && names.contains(&folded)) {
             return name;
         }
-        // One octet alone is none of the six.
+        // One octet alone is no name kept once.
         let start = numbers.below(text.len());
         if is_token(text[start]) {
             return [start, start + 1];

@@ -24,7 +24,7 @@ pub fn seeded(run: &mut Run) -> Compared<()> {
 
 /// The known names.
 fn known() -> Vec<&'static [u8]> {
-    [&ONCE[..], &ALWAYS].concat()
+    [ONCE, ALWAYS].concat()
 }
 
 fn ask(run: &mut Run, name: &[u8]) -> Compared<()> {

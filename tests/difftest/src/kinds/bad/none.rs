@@ -65,22 +65,22 @@ pub const WAYS: &[(&str, Way)] = &[
             set_value(tables, numbers.below(6), span, 2);
         },
     ),
-    ("a name that may stand again, twice", |_, tables| {
+    ("`hreflang` again", |_, tables| {
         names(tables, [b"hreflang", b"HREFLANG", b"Hreflang"])
     }),
-    ("the other name that may stand again", |_, tables| {
+    ("`rev` again", |_, tables| {
         names(tables, [b"rev", b"REV", b"Rev"])
     }),
     ("title and title*", |_, tables| {
         names(tables, [b"title", b"TITLE*", b"title**"])
     }),
-    ("names that begin one of the six", |_, tables| {
+    ("names that begin a name kept once", |_, tables| {
         names(tables, [b"rel", b"re", b"re"])
     }),
-    ("names that one of the six begins", |_, tables| {
+    ("names that a name kept once begins", |_, tables| {
         names(tables, [b"type", b"types", b"types"])
     }),
-    ("one of the six in each link", |_, tables| {
+    ("a name kept once in each link", |_, tables| {
         let span = append(tables, b"type");
         for param in [0, 2, 3] {
             set_name(tables, param, span);

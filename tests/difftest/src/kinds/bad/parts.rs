@@ -108,7 +108,7 @@ fn value(numbers: &mut Numbers, tables: &mut Tables, octets: &[u8], form: usize)
     set_value(tables, numbers.below(6), span, form);
 }
 
-/// The last link gets two parameters of one of the six names, in any case of letters.
+/// The last link gets two parameters of a name kept once, in any case of letters.
 fn twice<const NAME: usize>(numbers: &mut Numbers, tables: &mut Tables) {
     let places = numbers.of(&[[3, 4], [4, 5], [3, 5]]);
     for place in [3, 4, 5] {
