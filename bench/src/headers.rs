@@ -77,7 +77,7 @@ fn escaped() -> Vec<u8> {
     links.join(", ").into_bytes()
 }
 
-/// Two links with short parameters: of the six names and of others, first ones and later ones, of every form.
+/// Two links with short parameters: of names kept once and of others, first ones and later ones, of every form.
 fn many_params() -> Vec<u8> {
     let params = ";a=1;rev=x;title=t;c;hreflang=en;type=\"a\";b2=\"\";media=m".repeat(10);
     format!("<a>;rel=next{params},<b>;rel=last{params}").into_bytes()

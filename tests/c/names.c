@@ -58,7 +58,7 @@ static void check(const uint8_t *octets, size_t len, const char *what)
     expect(capstan_name_code(octets, len) == due(octets, len), octets, len, what);
 }
 
-/* Each octet in each place of the name, before it and behind it, and each part of the name. */
+/* Each octet in each place of the name, before it and behind it; the name without each of its octets, and each part of it. */
 static void test_near(const uint8_t *name, size_t len)
 {
     uint8_t near[OCTETS];
@@ -70,6 +70,11 @@ static void test_near(const uint8_t *name, size_t len)
             check(near, place < len ? len : len + 1, "one octet other");
             memcpy(near + place + 1, name + place, len - place);
             check(near, len + 1, "one octet more");
+        }
+        if (place < len) {
+            memcpy(near, name, place);
+            memcpy(near + place, name + place + 1, len - place - 1);
+            check(near, len - 1, "one octet fewer");
         }
         check(name + place, len - place, "the end of a name");
         check(name, place, "the beginning of a name");

@@ -122,10 +122,13 @@ static void value_law(reading r) {
   }
 }
 
-/* The code as a list of the names says it. */
+/* The known names in the order of their codes; those that a link keeps once come first. */
+static const char *const names[] = {"rel", "anchor", "media", "title", "title*", "type", "hreflang", "rev"};
+enum { NAMES = sizeof names / sizeof *names, LAST_ONCE = 6 };
+
+/* The code as the list of names says it. */
 static size_t listed_code(const uint8_t *name, size_t length) {
-  static const char *const names[] = {"rel", "anchor", "media", "title", "title*", "type", "hreflang", "rev"};
-  for (size_t i = 0; i < sizeof names / sizeof *names; i++) {
+  for (size_t i = 0; i < NAMES; i++) {
     size_t same = 0;
     if (strlen(names[i]) != length) continue;
     while (same < length && (name[same] >= 'A' && name[same] <= 'Z' ? name[same] + 32 : name[same]) == names[i][same]) same++;
@@ -150,13 +153,14 @@ static void flipped_law(const uint8_t *name, size_t length) {
   code_of(flipped, length);
 }
 
-/* Of the codes up to that of `type` a link has one parameter each at most. */
+/* Of each code that is kept once a link has one parameter at most. Whether each `hreflang` and `rev` was kept can't be seen here; the
+   differential test compares that. */
 static void code_law(reading r) {
   for (size_t link = 0; link < r.answer.links; link++) {
-    size_t had[9] = {0}, *param = r.params + 5 * r.links[4 * link + 2];
+    size_t had[NAMES + 1] = {0}, *param = r.params + 5 * r.links[4 * link + 2];
     for (size_t place = 0; place < r.links[4 * link + 3]; place++, param += 5) {
       size_t code = code_of(r.text + param[0], param[1] - param[0]);
-      MUST(++had[code] == 1 || code == 0 || code > 6);
+      MUST(++had[code] == 1 || code == 0 || code > LAST_ONCE);
       if (code > 0) seen(4, 16 * code + (had[code] < 16 ? had[code] : 15));
       flipped_law(r.text + param[0], param[1] - param[0]);
     }
