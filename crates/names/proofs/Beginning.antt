@@ -2,7 +2,7 @@
 use Prim.Native.Nat.{ℕ, zero, suc, _+_, _-_, _*_, _/_, _%_, _≤_, _<_}
 use native.Mathlib.Omega.{arith}
 use mathlib.Core.Path.{_≡_, refl, sym, ap, _∙_}
-use mathlib.Core.Bool.{true, false, not, _||_}
+use mathlib.Core.Bool.{true, false, cond, not, _||_}
 use mathlib.Core.List.{List, [], _∷_}
 use lib.Bits.{bitOr, or-step, or-lt}
 use lib.Dec.{leb, eqb}
@@ -130,14 +130,22 @@ peeled (suc k) (c ∷ n) (d ∷ m) a b e =
     peel (c ∷ n) (d ∷ m) (omega arith) (omega arith) (e 0 (omega arith))
     ∙ peeled k n m (omega arith) (omega arith) (λ i h. e (suc i) (omega arith))
 
-module _ (n m : List ℕ) {r q : ℕ} (f : First n r) (g : First m q) where
-  pub rest-told : 4 ≤ length n → Lettered m → r ≡ q → sameFolded n m ≡ sameFolded (drop 4 n) (drop 4 m)
-  rest-told h l e = peeled 4 n m h (l .long) (folds n m f g e l)
+-- the part behind four octets is all that is left
+behind : (n : List ℕ) → take (length n - 4) (drop 4 n) ≡ drop 4 n
+behind n = take-all (length n - 4) (drop 4 n) (omega (arith, length-drop 4 n))
+
+module _ (n m : List ℕ) {r q : ℕ} (f : First n r) (g : First m q) (k : ℕ) where
+  -- the same number: the code is told by the parts behind four octets
+  pub rest-tells : 4 ≤ length n → Lettered m → r ≡ q → {x : ℕ}
+      → x ≡ cond (sameFolded (take (length n - 4) (drop 4 n)) (take (length m - 4) (drop 4 m))) k 0
+      → x ≡ cond (sameFolded n m) k 0
+  rest-tells h l e t =
+      t ∙ rw (behind n, behind m, peeled 4 n m h (l .long) (folds n m f g e l))
 
   -- another number: another name
-  pub other-told : (r ≡ q → ⊥) → sameFolded n m ≡ false
+  pub other-tells : (r ≡ q → ⊥) → 0 ≡ cond (sameFolded n m) k 0
   unfolding sameFolded
-  other-told o = same-false (folded n) (folded m) (λ e. o (f .is ∙ numbers e ∙ sym (g .is)))
+  other-tells o = rw (same-false (folded n) (folded m) (λ e. o (f .is ∙ numbers e ∙ sym (g .is))))
     where
       at : folded n ≡ folded m → (i : ℕ) → low (getD n i 0) ≡ low (getD m i 0)
       at e i = sym (low-told n i) ∙ ap (λ (x : List ℕ). low (getD x i 0)) e ∙ low-told m i
@@ -147,11 +155,14 @@ module _ (n m : List ℕ) {r q : ℕ} (f : First n r) (g : First m q) where
           ≡ low (getD m 0 0) + low (getD m 1 0) * 256 + low (getD m 2 0) * 65536 + low (getD m 3 0) * 16777216
       numbers e = rw (at e 0, at e 1, at e 2, at e 3)
 
--- the part behind four octets is all that is left
-pub behind : (n : List ℕ) → take (length n - 4) (drop 4 n) ≡ drop 4 n
-behind n = take-all (length n - 4) (drop 4 n) (omega (arith, length-drop 4 n))
-
 -- that a name begins with four letters is computed
 pub lettered : {n : List ℕ} → leb 4 (length n) ≡ true → every (λ i. between 97 122 (low (getD n i 0))) 4 ≡ true → Lettered n
 lettered {n} h e =
     record { long = leb-true 4 (length n) h; letter = λ i l. every-at (λ j. between 97 122 (low (getD n j 0))) 4 e i l }
+
+-- what stands behind the first four
+pub long-behind : (n : List ℕ) → 8 ≤ length n → 4 ≤ length (take (length n - 4) (drop 4 n))
+long-behind n h = rw (behind n) (omega (arith, length-drop 4 n, h))
+
+pub lettered-behind : (m : List ℕ) → Lettered (drop 4 m) → Lettered (take (length m - 4) (drop 4 m))
+lettered-behind m l = rw (behind m) l

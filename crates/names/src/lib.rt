@@ -2,7 +2,7 @@
 ghost use mathlib.Core.Bool.{cond};
 ghost use mathlib.Core.Path.{_≡_};
 ghost use Prim.Native.Nat.{_≤_};
-ghost use lib.ListN.{length};
+ghost use lib.ListN.{length, drop};
 ghost use lib.Seq.{slice};
 ghost use Rattle.octets.specs.Fold.{folded, sameFolded};
 ghost use Rattle.grammar.specs.Kept.{codeOf};
@@ -88,6 +88,19 @@ fn only_long(n: &[u8], m: &[u8], k: u8) -> u8
     0
 }
 
+// As `only_long`, for a name m that begins with eight letters, four and four of them.
+fn only_longer(n: &[u8], m: &[u8], k: u8) -> u8
+    requires { ⌜ 8 ≤ length (now n) ⌝ }
+    requires { ⌜ Lettered (now m) ⌝ }
+    requires { ⌜ Lettered (drop 4 (now m)) ⌝ }
+    ensures { λ r. ⌜ r ≡ cond (sameFolded (now (n .entry)) (now (m .entry))) k 0 ⌝ }
+{
+    if first(n) == first(m) {
+        return only_long(&n[4..], &m[4..], k);
+    }
+    0
+}
+
 // The code of the name n, written in any case, or 0 if it is not known. Its length and one of its first octets leave one known name at
 // most, and no other is compared.
 fn known(n: &[u8]) -> u8
@@ -110,7 +123,7 @@ fn known(n: &[u8]) -> u8
         } else {
             only_long(n, b"title*", 5)
         },
-        8 => only_long(n, b"hreflang", 7),
+        8 => only_longer(n, b"hreflang", 7),
         _ => 0,
     }
 }

@@ -61,11 +61,11 @@ slice-aggregate-only-long-5 c = search needs
 only-long-requires-5 : tie.Need-only-long-requires-5
 only-long-requires-5 c κs = (omega (arith, c .before .before .before .match .keys4), lettered refl refl)
 
-slice-aggregate-only-long-6 : tie.Need-slice-aggregate-only-long-6
-slice-aggregate-only-long-6 c = search needs
+slice-aggregate-only-longer : tie.Need-slice-aggregate-only-longer
+slice-aggregate-only-longer c = search needs
 
-only-long-requires-6 : tie.Need-only-long-requires-6
-only-long-requires-6 c κs = (omega (arith, c .before .match .keys5), lettered refl refl)
+only-longer-requires : tie.Need-only-longer-requires
+only-longer-requires c κs = (omega (arith, c .before .match .keys5), (lettered refl refl, lettered refl refl))
 
 returns : tie.Need-returns
 unfolding fold
@@ -125,7 +125,7 @@ returns-8 : tie.Need-returns-8
 unfolding fold
 returns-8 c =
     let n = c .before .before .before .before .args .n .now in
-    one-left n (long 8) (is-long n (c .before .before .match .keys5)) (codes .hreflang) refl refl (c .only-long6 .ensures)
+    one-left n (long 8) (is-long n (c .before .before .match .keys5)) (codes .hreflang) refl refl (c .only-longer .ensures)
 
 returns-9 : tie.Need-returns-9
 unfolding fold
@@ -157,8 +157,8 @@ known-spec =
     only-long-requires-4
     slice-aggregate-only-long-5
     only-long-requires-5
-    slice-aggregate-only-long-6
-    only-long-requires-6
+    slice-aggregate-only-longer
+    only-longer-requires
     returns
     returns-2
     returns-3

@@ -1,7 +1,6 @@
 -- As the number of the first four octets tells, and the comparison of those behind them.
-use mathlib.Core.Path.{_∙_}
 use borrow.Author.Needs.{needs}
-use Rattle.names.proofs.Beginning.{rest-told, other-told, behind}
+use Rattle.names.proofs.Beginning.{rest-tells, other-tells}
 use Rattle.names.proofs.only_long.Statement.{statement}
 use Rattle.names.proofs.only_long.Tie as tie
 
@@ -36,13 +35,14 @@ returns : tie.Need-returns
 returns c =
     let firsts = c .before .before .before .before in
     let start = firsts .before .before .before .before in
-    c .only .ensures
-    ∙ rw (rest-told (start .args .n .now) (start .args .m .now) (firsts .before .first .ensures) (firsts .first2 .ensures) (start .pre .0) (start .pre .1) (c .before .before .before .if1 .taken), behind (start .args .n .now), behind (start .args .m .now))
+    rest-tells (start .args .n .now) (start .args .m .now) (firsts .before .first .ensures) (firsts .first2 .ensures) (start .args .k) (start .pre .0) (start .pre .1)
+    (c .before .before .before .if1 .taken) (c .only .ensures)
 
 returns-2 : tie.Need-returns-2
 returns-2 c =
     let start = c .before .before .before .before .before in
-    rw (other-told (start .args .n .now) (start .args .m .now) (c .before .before .first .ensures) (c .before .first2 .ensures) (c .if1 .left))
+    other-tells (start .args .n .now) (start .args .m .now) (c .before .before .first .ensures) (c .before .first2 .ensures) (start .args .k)
+    (c .if1 .left)
 
 pub only-long-spec : {M : Type 1} → statement M
 only-long-spec =
