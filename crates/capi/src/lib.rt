@@ -1,5 +1,6 @@
 // The entries for C. Each asks an entry of the library and hands on the numbers of its answer. A slice is passed as a pointer and
 // a count, and bare numbers become link numbers and counts here.
+ghost use mathlib.Core.Bool.{cond};
 ghost use mathlib.Core.Path.{_≡_};
 ghost use Rattle.answers.specs.Feed.{feedOut, stateOf};
 ghost use Rattle.answers.specs.Length.{lengthOut};
@@ -7,7 +8,7 @@ ghost use Rattle.answers.specs.Read.{readOut};
 ghost use Rattle.answers.specs.Search.{searchOut};
 ghost use Rattle.capi.specs.ContextTold.{ContextTold};
 ghost use Rattle.grammar.specs.Kept.{codeOf};
-ghost use Rattle.octets.specs.Fold.{folded};
+ghost use Rattle.octets.specs.Fold.{folded, sameFolded, pairsCompared};
 ghost use Rattle.outcomes.specs.Copy.{Copy};
 ghost use Rattle.outcomes.specs.Feeding.{start, Feeds, Finishes};
 ghost use Rattle.outcomes.specs.Read.{Read};
@@ -20,6 +21,7 @@ use answers::feed_answer::Feeding;
 use answers::length_answer::LengthNumbers;
 use answers::read_answer::ReadNumbers;
 use answers::search_answer::SearchNumbers;
+use folding::CompareNumbers;
 use kinds::Counts;
 use kinds::LinkNumber;
 
@@ -163,4 +165,13 @@ pub extern "C" fn capstan_name_code(name: &[u8]) -> usize
     ensures { λ r. ⌜ r ≡ codeOf (folded (now (name .entry))) ⌝ }
 {
     names::code_of(name) as usize
+}
+
+// Compares two texts as names compare, and tells how many pairs of octets were compared.
+#[no_mangle]
+pub extern "C" fn capstan_compare(a: &[u8], b: &[u8]) -> CompareNumbers
+    ensures { λ r. ⌜ r .same ≡ cond (sameFolded (now (a .entry)) (now (b .entry))) 1 0 ⌝ }
+    ensures { λ r. ⌜ r .pairs ≡ pairsCompared (now (a .entry)) (now (b .entry)) ⌝ }
+{
+    folding::compare(a, b).numbers()
 }

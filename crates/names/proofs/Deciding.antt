@@ -7,13 +7,12 @@ use mathlib.Core.List.{List, []}
 use lib.Dec.{eqb}
 use lib.ListN.{length, getD, length-map, List·getD-map}
 use borrow.Author.Tests.{eqb-true, eqb-false, eq-eqb, ne-eqb}
-use Rattle.octets.specs.Sets.{between}
 use Rattle.octets.specs.Fold.{fold, folded, same, sameFolded}
-use Rattle.octets.proofs.Laws.{same-sound}
-use Rattle.octets.proofs.Octets.{every, every-at, only-if, between-bounds}
+use Rattle.octets.proofs.Laws.{fold-at, same-sound}
+use Rattle.octets.proofs.Low.{low, low-fold}
+use Rattle.octets.proofs.Octets.{every, every-at}
 use Rattle.grammar.specs.Kept.{knownNames, codeOf}
 use Rattle.grammar.proofs.Codes.{codes, code-same}
-use Rattle.names.specs.First.{low}
 
 -- p holds of no known name but the one of code k
 abbrev pub leaves : (List ℕ → Bool) → ℕ → Bool
@@ -27,23 +26,6 @@ abbrev pub lowAt : ℕ → ℕ → List ℕ → Bool
 lowAt i d m = eqb (low (getD m i 0)) d
 
 -- both are told by the name as it is written
-fold-at : (n : List ℕ) (i : ℕ) → getD (folded n) i 0 ≡ fold (getD n i 0)
-unfolding fold
-fold-at n i = List·getD-map fold n i 0
-
-low-fold : (c : ℕ) → low (fold c) ≡ low c
-unfolding fold
-low-fold c = go (between 65 90 c) refl
-  where
-    go : (b : Bool) → between 65 90 c ≡ b → low (cond (between 65 90 c) (c + 32) c) ≡ low c
-    go true e =
-        rw e
-        (eqb-true (low (c + 32)) (low c)
-        (only-if (between 65 90 c) (eqb (low (c + 32)) (low c))
-        (every-at (λ d. not (between 65 90 d) || eqb (low (d + 32)) (low d)) 91 refl c (omega (arith, between-bounds 65 90 c e .1)))
-        e))
-    go false e = rw e
-
 module _ (n : List ℕ) {l : ℕ} where
   pub is-long : length n ≡ l → long l (folded n) ≡ true
   is-long e = eq-eqb (length (folded n)) l (length-map n fold ∙ e)
@@ -51,7 +33,7 @@ module _ (n : List ℕ) {l : ℕ} where
   pub not-long : (length n ≡ l → ⊥) → long l (folded n) ≡ false
   not-long h = ne-eqb (length (folded n)) l (λ e. h (sym (length-map n fold) ∙ e))
 
-pub low-told : (n : List ℕ) (i : ℕ) → low (getD (folded n) i 0) ≡ low (getD n i 0)
+low-told : (n : List ℕ) (i : ℕ) → low (getD (folded n) i 0) ≡ low (getD n i 0)
 low-told n i = ap low (fold-at n i) ∙ low-fold (getD n i 0)
 
 module _ (n : List ℕ) (i : ℕ) {d : ℕ} where

@@ -1,4 +1,3 @@
 -- Laws of names' codes, and of what has been seen; the latter are for other crates to cite.
-pub mod Beginning
 pub mod Deciding
 pub mod Seeing

@@ -1,3 +1,2 @@
 -- What the crate `names` means by its words.
-pub mod First
 pub mod Remembers

@@ -1,15 +1,12 @@
 // Known names: the code of each, and a record of which of those kept once have been seen.
 ghost use mathlib.Core.Bool.{cond};
 ghost use mathlib.Core.Path.{_≡_};
-ghost use Prim.Native.Nat.{_≤_};
-ghost use lib.ListN.{length, drop};
 ghost use lib.Seq.{slice};
 ghost use Rattle.octets.specs.Fold.{folded, sameFolded};
 ghost use Rattle.grammar.specs.Kept.{codeOf};
 ghost use Rattle.tables.specs.Good.{InText};
-ghost use Rattle.names.specs.First.{Packed, First, Lettered};
 ghost use Rattle.names.specs.Remembers.{noneSeen, hasCode, withCode};
-use folding::same_folded;
+use folding::compare;
 use kinds::Place;
 use kinds::Span;
 
@@ -54,51 +51,7 @@ impl Seen {
 fn only(n: &[u8], m: &[u8], k: u8) -> u8
     ensures { λ r. ⌜ r ≡ cond (sameFolded (now (n .entry)) (now (m .entry))) k 0 ⌝ }
 {
-    if same_folded(n, m) { k } else { 0 }
-}
-
-// Four octets as one number, the first one lowest, with the bit set in each that parts small letters from capitals. Set behind the
-// shifts, the bits don't keep the compiler from loading all four at once.
-fn packed(a: u8, b: u8, c: u8, d: u8) -> u32
-    ensures { λ r. ⌜ Packed a b c d r ⌝ }
-{
-    (a as u32 | 32)
-        + (b as u32 * 256 | 8192)
-        + (c as u32 * 65536 | 2097152)
-        + (d as u32 * 16777216 | 536870912)
-}
-
-// The first four octets of a name as one number.
-fn first(n: &[u8]) -> u32
-    requires { ⌜ 4 ≤ length (now n) ⌝ }
-    ensures { λ r. ⌜ First (now (n .entry)) r ⌝ }
-{
-    packed(n[0], n[1], n[2], n[3])
-}
-
-// As `only`, for a name m that begins with four letters, which are compared at once.
-fn only_long(n: &[u8], m: &[u8], k: u8) -> u8
-    requires { ⌜ 4 ≤ length (now n) ⌝ }
-    requires { ⌜ Lettered (now m) ⌝ }
-    ensures { λ r. ⌜ r ≡ cond (sameFolded (now (n .entry)) (now (m .entry))) k 0 ⌝ }
-{
-    if first(n) == first(m) {
-        return only(&n[4..], &m[4..], k);
-    }
-    0
-}
-
-// As `only_long`, for a name m that begins with eight letters, four and four of them.
-fn only_longer(n: &[u8], m: &[u8], k: u8) -> u8
-    requires { ⌜ 8 ≤ length (now n) ⌝ }
-    requires { ⌜ Lettered (now m) ⌝ }
-    requires { ⌜ Lettered (drop 4 (now m)) ⌝ }
-    ensures { λ r. ⌜ r ≡ cond (sameFolded (now (n .entry)) (now (m .entry))) k 0 ⌝ }
-{
-    if first(n) == first(m) {
-        return only_long(&n[4..], &m[4..], k);
-    }
-    0
+    if compare(n, m).same { k } else { 0 }
 }
 
 // The code of the name n, written in any case, or 0 if it is not known. Its length and one of its first octets leave one known name at
@@ -112,18 +65,18 @@ fn known(n: &[u8]) -> u8
         } else {
             only(n, b"rev", 8)
         },
-        4 => only_long(n, b"type", 6),
+        4 => only(n, b"type", 6),
         5 => if n[0] | 32 == b'm' {
-            only_long(n, b"media", 3)
+            only(n, b"media", 3)
         } else {
-            only_long(n, b"title", 4)
+            only(n, b"title", 4)
         },
         6 => if n[0] | 32 == b'a' {
-            only_long(n, b"anchor", ANCHOR)
+            only(n, b"anchor", ANCHOR)
         } else {
-            only_long(n, b"title*", 5)
+            only(n, b"title*", 5)
         },
-        8 => only_longer(n, b"hreflang", 7),
+        8 => only(n, b"hreflang", 7),
         _ => 0,
     }
 }

@@ -6,7 +6,7 @@ use mathlib.Core.Bool.{Bool, true, false, _||_, false≢true}
 use mathlib.Core.List.{List, [], _∷_}
 use mathlib.Core.Path.{_≡_, refl, sym, ap, _∙_}
 use lib.Dec.{eqb}
-use lib.ListN.{length, take, drop, length-map}
+use lib.ListN.{length, take, drop, getD, length-map, List·getD-map}
 use lib.Seq.{slice, take-nil}
 use borrow.Author.Tests.{eqb-true, eq-eqb, ne-eqb}
 use Rattle.octets.specs.Sets.{between, isLetter, isDigit, isBlank, isToken, isPlain, isEscapable, isTarget, isHex}
@@ -100,6 +100,10 @@ fold-fold c = go (between 65 90 c) refl
         eqb-true (fold (fold c)) (fold c)
         (within (between 65 90) (λ k. eqb (fold (fold k)) (fold k)) (between-octets 65 90 (omega arith)) refl c e)
     go false e = ap fold (fold-other c e)
+
+pub fold-at : (n : List ℕ) (i : ℕ) → getD (folded n) i 0 ≡ fold (getD n i 0)
+unfolding fold
+fold-at n i = List·getD-map fold n i 0
 
 -- ---- comparison
 

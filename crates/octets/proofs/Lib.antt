@@ -2,3 +2,5 @@
 pub mod Listed
 pub mod Octets
 pub mod Laws
+pub mod Low
+pub mod Pairs

@@ -1,8 +1,9 @@
--- Folding A to Z to a to z, and comparison of texts as they are folded.
-use Prim.Native.Nat.{ℕ, _+_}
+-- Folding A to Z to a to z, comparison of texts as they are folded, and how many pairs of octets it takes.
+use Prim.Native.Nat.{ℕ, suc, _+_}
 use mathlib.Core.Bool.{Bool, true, false, cond, _&&_}
 use mathlib.Core.List.{List, [], _∷_, map}
 use lib.Dec.{eqb}
+use lib.ListN.{length}
 use Rattle.octets.specs.Sets.{between}
 
 -- A to Z become a to z, and no other octet changes
@@ -22,3 +23,13 @@ same (c ∷ s) (d ∷ t) = eqb c d && same s t
 -- two texts compare equal as names do
 unfoldable pub sameFolded : List ℕ → List ℕ → Bool
 sameFolded s t = same (folded s) (folded t)
+
+-- the pairs up to and with the first that is unequal, or all
+abbrev pub upToUnequal : List ℕ → List ℕ → ℕ
+upToUnequal [] t = 0
+upToUnequal (c ∷ s) [] = 0
+upToUnequal (c ∷ s) (d ∷ t) = cond (eqb c d) (suc (upToUnequal s t)) 1
+
+-- how many pairs of octets are compared to tell whether two texts are the same as names are: none if the lengths differ
+unfoldable pub pairsCompared : List ℕ → List ℕ → ℕ
+pairsCompared s t = cond (eqb (length s) (length t)) (upToUnequal (folded s) (folded t)) 0

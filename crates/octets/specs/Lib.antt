@@ -4,3 +4,4 @@ pub mod Sets
 pub mod Member
 pub mod Bits
 pub mod Fold
+pub mod Laws

@@ -1,3 +1,10 @@
-// Octets: a test for each set that the grammar names.
+// Octets: a test for each set that the grammar names; and the law of how many pairs of octets tell whether two texts are the same.
+ghost use Rattle.octets.specs.Laws.{PairsTell};
+
 mod bits;
 pub mod sets;
+
+// Texts are the same exactly if their lengths are equal, and all pairs of octets are compared and agree.
+pub fn pairs_tell()
+    ensures { λ _. ⌜ PairsTell ⌝ }
+{}

@@ -7,7 +7,7 @@ ghost use Rattle.tables.specs.Good.{InText};
 ghost use Rattle.tables.specs.Relation.{runs};
 ghost use Rattle.values.specs.Rest.{rest};
 ghost use Rattle.runs.specs.Runs.{isNone, AtRun, Skipped, NextRun, MatchRun, agreesAt};
-use folding::fold;
+use folding::same_octet;
 use kinds::Place;
 use kinds::Span;
 use values::meant_at;
@@ -44,7 +44,7 @@ pub fn next_run(s: &[u8], from: Place, e: Place) -> Place
 fn agrees(q: &[u8], i: usize, c: u8) -> bool
     ensures { λ r. ⌜ r ≡ agreesAt (now (q .entry)) i c ⌝ }
 {
-    i < q.len() && fold(c) == fold(q[i])
+    i < q.len() && same_octet(c, q[i])
 }
 
 // What comparing a run found: whether it is the same, folded, and the place behind it.

@@ -1,11 +1,9 @@
 -- Arm by arm: what the length and an octet leave of the known names is the one compared.
-use native.Mathlib.Omega.{arith}
 use mathlib.Core.Path.{refl}
 use mathlib.Core.Bool.{not, _&&_, _||_}
 use borrow.Author.Needs.{needs}
 use Rattle.octets.specs.Fold.{fold}
 use Rattle.grammar.proofs.Codes.{codes}
-use Rattle.names.proofs.Beginning.{lettered}
 use Rattle.names.proofs.Deciding.{long, lowAt, is-long, not-long, is-low, not-low, none-left, one-left}
 use Rattle.names.proofs.known.Statement.{statement}
 use Rattle.names.proofs.known.Tie as tie
@@ -25,47 +23,47 @@ slice-aggregate-only-2 c = search needs
 only-requires-2 : tie.Need-only-requires-2
 only-requires-2 c κs = search needs
 
-slice-aggregate-only-long : tie.Need-slice-aggregate-only-long
-slice-aggregate-only-long c = search needs
+slice-aggregate-only-3 : tie.Need-slice-aggregate-only-3
+slice-aggregate-only-3 c = search needs
 
-only-long-requires : tie.Need-only-long-requires
-only-long-requires c κs = (omega (arith, c .before .match .keys2), lettered refl refl)
+only-requires-3 : tie.Need-only-requires-3
+only-requires-3 c κs = search needs
 
 shared-slice-read-if2 : tie.Need-shared-slice-read-if2
 shared-slice-read-if2 c = search needs
 
-slice-aggregate-only-long-2 : tie.Need-slice-aggregate-only-long-2
-slice-aggregate-only-long-2 c = search needs
+slice-aggregate-only-4 : tie.Need-slice-aggregate-only-4
+slice-aggregate-only-4 c = search needs
 
-only-long-requires-2 : tie.Need-only-long-requires-2
-only-long-requires-2 c κs = (omega (arith, c .before .before .before .match .keys3), lettered refl refl)
+only-requires-4 : tie.Need-only-requires-4
+only-requires-4 c κs = search needs
 
-slice-aggregate-only-long-3 : tie.Need-slice-aggregate-only-long-3
-slice-aggregate-only-long-3 c = search needs
+slice-aggregate-only-5 : tie.Need-slice-aggregate-only-5
+slice-aggregate-only-5 c = search needs
 
-only-long-requires-3 : tie.Need-only-long-requires-3
-only-long-requires-3 c κs = (omega (arith, c .before .before .before .match .keys3), lettered refl refl)
+only-requires-5 : tie.Need-only-requires-5
+only-requires-5 c κs = search needs
 
 shared-slice-read-if3 : tie.Need-shared-slice-read-if3
 shared-slice-read-if3 c = search needs
 
-slice-aggregate-only-long-4 : tie.Need-slice-aggregate-only-long-4
-slice-aggregate-only-long-4 c = search needs
+slice-aggregate-only-6 : tie.Need-slice-aggregate-only-6
+slice-aggregate-only-6 c = search needs
 
-only-long-requires-4 : tie.Need-only-long-requires-4
-only-long-requires-4 c κs = (omega (arith, c .before .before .before .match .keys4), lettered refl refl)
+only-requires-6 : tie.Need-only-requires-6
+only-requires-6 c κs = search needs
 
-slice-aggregate-only-long-5 : tie.Need-slice-aggregate-only-long-5
-slice-aggregate-only-long-5 c = search needs
+slice-aggregate-only-7 : tie.Need-slice-aggregate-only-7
+slice-aggregate-only-7 c = search needs
 
-only-long-requires-5 : tie.Need-only-long-requires-5
-only-long-requires-5 c κs = (omega (arith, c .before .before .before .match .keys4), lettered refl refl)
+only-requires-7 : tie.Need-only-requires-7
+only-requires-7 c κs = search needs
 
-slice-aggregate-only-longer : tie.Need-slice-aggregate-only-longer
-slice-aggregate-only-longer c = search needs
+slice-aggregate-only-8 : tie.Need-slice-aggregate-only-8
+slice-aggregate-only-8 c = search needs
 
-only-longer-requires : tie.Need-only-longer-requires
-only-longer-requires c κs = (omega (arith, c .before .match .keys5), (lettered refl refl, lettered refl refl))
+only-requires-8 : tie.Need-only-requires-8
+only-requires-8 c κs = search needs
 
 returns : tie.Need-returns
 unfolding fold
@@ -87,7 +85,7 @@ returns-3 : tie.Need-returns-3
 unfolding fold
 returns-3 c =
     let n = c .before .before .before .before .args .n .now in
-    one-left n (long 4) (is-long n (c .before .before .match .keys2)) (codes .type) refl refl (c .only-long .ensures)
+    one-left n (long 4) (is-long n (c .before .before .match .keys2)) (codes .type) refl refl (c .only3 .ensures)
 
 returns-4 : tie.Need-returns-4
 unfolding fold
@@ -95,7 +93,7 @@ returns-4 c =
     let n = c .before .before .before .before .before .before .args .n .now in
     one-left n (λ m. long 5 m && lowAt 0 109 m)
     (rw (is-long n (c .before .before .before .before .match .keys3), is-low n 0 (c .before .before .if2 .taken)))
-    (codes .media) refl refl (c .only-long2 .ensures)
+    (codes .media) refl refl (c .only4 .ensures)
 
 returns-5 : tie.Need-returns-5
 unfolding fold
@@ -103,7 +101,7 @@ returns-5 c =
     let n = c .before .before .before .before .before .before .args .n .now in
     one-left n (λ m. long 5 m && not (lowAt 0 109 m))
     (rw (is-long n (c .before .before .before .before .match .keys3), not-low n 0 (c .before .before .if2 .left)))
-    (codes .title) refl refl (c .only-long3 .ensures)
+    (codes .title) refl refl (c .only5 .ensures)
 
 returns-6 : tie.Need-returns-6
 unfolding fold
@@ -111,7 +109,7 @@ returns-6 c =
     let n = c .before .before .before .before .before .before .args .n .now in
     one-left n (λ m. long 6 m && lowAt 0 97 m)
     (rw (is-long n (c .before .before .before .before .match .keys4), is-low n 0 (c .before .before .if3 .taken)))
-    (codes .anchor) refl refl (c .only-long4 .ensures)
+    (codes .anchor) refl refl (c .only6 .ensures)
 
 returns-7 : tie.Need-returns-7
 unfolding fold
@@ -119,13 +117,13 @@ returns-7 c =
     let n = c .before .before .before .before .before .before .args .n .now in
     one-left n (λ m. long 6 m && not (lowAt 0 97 m))
     (rw (is-long n (c .before .before .before .before .match .keys4), not-low n 0 (c .before .before .if3 .left)))
-    (codes .title*) refl refl (c .only-long5 .ensures)
+    (codes .title*) refl refl (c .only7 .ensures)
 
 returns-8 : tie.Need-returns-8
 unfolding fold
 returns-8 c =
     let n = c .before .before .before .before .args .n .now in
-    one-left n (long 8) (is-long n (c .before .before .match .keys5)) (codes .hreflang) refl refl (c .only-longer .ensures)
+    one-left n (long 8) (is-long n (c .before .before .match .keys5)) (codes .hreflang) refl refl (c .only8 .ensures)
 
 returns-9 : tie.Need-returns-9
 unfolding fold
@@ -145,20 +143,20 @@ known-spec =
     only-requires
     slice-aggregate-only-2
     only-requires-2
-    slice-aggregate-only-long
-    only-long-requires
+    slice-aggregate-only-3
+    only-requires-3
     shared-slice-read-if2
-    slice-aggregate-only-long-2
-    only-long-requires-2
-    slice-aggregate-only-long-3
-    only-long-requires-3
+    slice-aggregate-only-4
+    only-requires-4
+    slice-aggregate-only-5
+    only-requires-5
     shared-slice-read-if3
-    slice-aggregate-only-long-4
-    only-long-requires-4
-    slice-aggregate-only-long-5
-    only-long-requires-5
-    slice-aggregate-only-longer
-    only-longer-requires
+    slice-aggregate-only-6
+    only-requires-6
+    slice-aggregate-only-7
+    only-requires-7
+    slice-aggregate-only-8
+    only-requires-8
     returns
     returns-2
     returns-3

@@ -4,14 +4,14 @@ use borrow.Author.Needs.{needs}
 use Rattle.names.proofs.only.Statement.{statement}
 use Rattle.names.proofs.only.Tie as tie
 
-same-folded-requires : tie.Need-same-folded-requires
-same-folded-requires c κs = search needs
+compare-requires : tie.Need-compare-requires
+compare-requires c κs = search needs
 
 returns : tie.Need-returns
-returns c = rw (sym (c .before .same-folded .ensures) ∙ c .if1 .taken)
+returns c = rw (sym (c .before .compare .ensures .0) ∙ c .if1 .taken)
 
 returns-2 : tie.Need-returns-2
-returns-2 c = rw (sym (c .before .same-folded .ensures) ∙ c .if1 .left)
+returns-2 c = rw (sym (c .before .compare .ensures .0) ∙ c .if1 .left)
 
 pub only-spec : {M : Type 1} → statement M
-only-spec = tie.close (tie.spec same-folded-requires returns returns-2)
+only-spec = tie.close (tie.spec compare-requires returns returns-2)

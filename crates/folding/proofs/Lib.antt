@@ -1,0 +1,3 @@
+-- What the proofs of this crate rest on.
+pub mod Cases
+pub mod Walking
