@@ -2,9 +2,10 @@
  * Reads, searches and writes HTTP Link field values (RFC 8288).
  *
  * Every function is proved to answer as the definitions in crates/outcomes/specs settle it, the code of a name as that in
- * crates/grammar/specs/Kept.antt does, for every input; of a feeding's state that isn't as it was handed out they say what still
- * holds. It allocates nothing, keeps nothing between calls, calls nothing of the C library, and may run on several threads at once. Link with libcapstan.a (Linux on x86-64), which ./build-library puts under dist/
- * beside a copy of this file. Octets may be any, NUL too; no text ends with one.
+ * crates/grammar/specs/Kept.antt does, and a comparison as those in crates/octets/specs/Fold.antt do, for every input; of a feeding's
+ * state that isn't as it was handed out they say what still holds. It allocates nothing, keeps nothing between calls, calls nothing of
+ * the C library, and may run on several threads at once. Link with libcapstan.a (Linux on x86-64), which ./build-library puts under
+ * dist/ beside a copy of this file. Octets may be any, NUL too; no text ends with one.
  *
  * What a caller must hold, since nothing checks it:
  *
@@ -21,9 +22,9 @@
  * 1 a token, and 2 a quoted string, whose span lies inside the quotes with its backslashes still there. The room is the count of slots
  * divided by 4 or by 5, rounded down. No header has more than 2,731 links, nor more than 4,095 parameters.
  *
- * Numbers. Each answer but those of capstan_start and capstan_name_code begins with one; the other numbers of a refusal are 0, except
- * the place with CAPSTAN_MALFORMED and the next state of a feed, and a refusal leaves every slot and octet lent as it was. After
- * success, slots and octets past those used hold what they held.
+ * Numbers. Each answer but those of capstan_start, capstan_name_code and capstan_compare begins with one; the other numbers of a refusal
+ * are 0, except the place with CAPSTAN_MALFORMED and the next state of a feed, and a refusal leaves every slot and octet lent as it was.
+ * After success, slots and octets past those used hold what they held.
  *
  * The functions over a table take its text, its slots and its counts as capstan_read or capstan_finish was given and answered them.
  * They check all of it: tables of any other making are used if they are good, and refused with CAPSTAN_BAD_TABLE if they are not. A
@@ -42,7 +43,7 @@
 extern "C" {
 #endif
 
-/* The most octets of a header, a text or a written form, and the least of a buffer that gathers a header. */
+/* The most octets of a header, a table's text or a written form, and the least of a buffer that gathers a header. */
 #define CAPSTAN_LIMIT 8192
 
 /* The numbers of one link record, and of one parameter record. */
@@ -51,7 +52,7 @@ extern "C" {
 
 enum {
     CAPSTAN_DONE = 0,
-    CAPSTAN_TOO_LONG = 1,       /* a header, all feeds, a text or a written form: over CAPSTAN_LIMIT octets */
+    CAPSTAN_TOO_LONG = 1,       /* a header, all feeds, a table's text or a written form: over CAPSTAN_LIMIT octets */
     CAPSTAN_MALFORMED = 2,      /* the grammar doesn't derive the header; at a feed, none that begins so */
     CAPSTAN_NO_LINK_ROOM = 3,   /* more links than room */
     CAPSTAN_NO_PARAM_ROOM = 4,  /* more kept parameters than room */
@@ -96,6 +97,7 @@ typedef struct { size_t number, place, links, params; } capstan_read_answer;
 typedef struct { size_t number, link; } capstan_search_answer;
 typedef struct { size_t number, source, start, end; } capstan_context_answer; /* source 1: text, 2: base; refused: 0, 0, 0 */
 typedef struct { size_t number, length; } capstan_length_answer;
+typedef struct { size_t same, pairs; } capstan_compare_answer; /* same is 1 or 0 */
 
 /* What a feeding remembers between calls. Its numbers are the library's: a caller hands it back as it got it. */
 typedef struct { size_t phase, total, place; } capstan_feeding;
@@ -149,6 +151,14 @@ capstan_read_answer capstan_finish(capstan_feeding state, const uint8_t *buffer,
  * nothing is refused, and what is not one of the names with a code is CAPSTAN_OTHER_NAME.
  */
 size_t capstan_name_code(const uint8_t *name, size_t name_len);
+
+/*
+ * Compares two texts as names compare, with A to Z taken for a to z and no other octet for another. Answers whether they are the same, 1
+ * or 0, and how many pairs of octets were compared. Lengths come first: if they differ, the texts are not the same, and no pair is
+ * compared. Else pairs are compared in order, up to and with the first that is unequal; if none is, all were compared, and the texts are
+ * the same. Any octets of any length may be asked, also none, and more than CAPSTAN_LIMIT: nothing is refused.
+ */
+capstan_compare_answer capstan_compare(const uint8_t *a, size_t a_len, const uint8_t *b, size_t b_len);
 
 /*
  * Answers the lowest number of a link that has the relation. A link's relations are what stands between the spaces of its `rel` value;

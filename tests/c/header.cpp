@@ -35,6 +35,7 @@ static bool parts_hold(const std::string &header, const capstan_read_answer &who
 int main()
 {
     const std::string header = "</packs/8>; rel=\"next\"";
+    const std::string name = "REL";
     const std::string relation = "next";
     const std::string base = "/packs/7";
     std::vector<std::size_t> links(CAPSTAN_LINK_SLOTS), params(CAPSTAN_PARAM_SLOTS);
@@ -42,6 +43,7 @@ int main()
 
     const auto r = capstan_read(octets(header), header.size(), links.data(), links.size(), params.data(), params.size());
     const auto code = capstan_name_code(octets(header) + params[0], params[1] - params[0]);
+    const auto alike = capstan_compare(octets(header) + params[0], params[1] - params[0], octets(name), name.size());
     const auto s = capstan_search(octets(header), header.size(), links.data(), links.size(), params.data(), params.size(), r.links,
                                   r.params, octets(relation), relation.size());
     const auto c = capstan_context(octets(header), header.size(), octets(base), base.size(), links.data(), links.size(),
@@ -56,7 +58,7 @@ int main()
         && c.number == CAPSTAN_DONE && c.source == CAPSTAN_BASE && c.start == 0 && c.end == base.size() && v.number == CAPSTAN_DONE
         && v.length == relation.size() && std::memcmp(out.data(), relation.data(), v.length) == 0 && w.number == CAPSTAN_DONE
         && w.length == form.size() && std::memcmp(written.data(), form.data(), w.length) == 0 && code == CAPSTAN_REL
-        && parts_hold(header, r, links, params);
+        && alike.same == 1 && alike.pairs == name.size() && parts_hold(header, r, links, params);
     if (!holds)
         std::puts("header.cpp: an answer is not the one expected");
     return holds ? 0 : 1;
