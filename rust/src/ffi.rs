@@ -9,11 +9,12 @@ mod answers;
 mod symbols;
 
 pub use answers::{
-    ContextAnswer, FeedAnswer, FeedingState, LengthAnswer, RawTable, ReadAnswer, SearchAnswer,
+    CompareAnswer, ContextAnswer, FeedAnswer, FeedingState, LengthAnswer, RawTable, ReadAnswer,
+    SearchAnswer,
 };
 use symbols::{
-    capstan_context, capstan_feed, capstan_finish, capstan_name_code, capstan_read, capstan_search,
-    capstan_start, capstan_value, capstan_write,
+    capstan_compare, capstan_context, capstan_feed, capstan_finish, capstan_name_code,
+    capstan_read, capstan_search, capstan_start, capstan_value, capstan_write,
 };
 
 /// Reads a header into the slots lent.
@@ -114,6 +115,19 @@ pub fn finish(
 pub fn name_code(name: &[u8]) -> usize {
     // SAFETY: as in `read`; nothing is lent for writing.
     unsafe { capstan_name_code(name.as_ptr(), name.len()) }
+}
+
+/// Compares two texts with A to Z taken for a to z.
+///
+/// ```
+/// use capstanbar::ffi::{compare, CompareAnswer};
+///
+/// assert_eq!(compare(b"Next", b"nEXT"), CompareAnswer { same: 1, pairs: 4 });
+/// assert_eq!(compare(b"next", b"text"), CompareAnswer { same: 0, pairs: 1 });
+/// ```
+pub fn compare(a: &[u8], b: &[u8]) -> CompareAnswer {
+    // SAFETY: as in `read`; nothing is lent for writing.
+    unsafe { capstan_compare(a.as_ptr(), a.len(), b.as_ptr(), b.len()) }
 }
 
 /// Searches for the lowest link that has the relation.

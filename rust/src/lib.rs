@@ -45,6 +45,15 @@
 //! # Ok::<(), capstanbar::Refusal>(())
 //! ```
 //!
+//! Any two texts compare as names do. The answer also says how many pairs of octets were compared:
+//!
+//! ```
+//! use capstanbar::{compare, Comparison};
+//!
+//! assert_eq!(compare(b"Next", b"nEXT"), Comparison { same: true, pairs: 4 });
+//! assert_eq!(compare(b"next", b"nest"), Comparison { same: false, pairs: 3 });
+//! ```
+//!
 //! A header that arrives in parts is fed to a [`Feeding`] part by part, wherever it is cut:
 //!
 //! ```
@@ -75,6 +84,7 @@
 #![deny(unsafe_code)]
 #![warn(missing_docs)]
 
+mod compare;
 mod feeding;
 pub mod ffi;
 mod limits;
@@ -85,6 +95,7 @@ mod read;
 mod refusal;
 mod table;
 
+pub use compare::{compare, Comparison};
 pub use feeding::Feeding;
 pub use limits::{LIMIT, LINK_SLOTS, PARAM_SLOTS};
 pub use link::{Link, Links};

@@ -62,6 +62,22 @@ pub struct FeedAnswer {
     pub next: FeedingState,
 }
 
+/// What comparing two texts answers.
+///
+/// ```
+/// use capstanbar::ffi::{compare, CompareAnswer};
+///
+/// assert_eq!(compare(b"title", b"title*"), CompareAnswer { same: 0, pairs: 0 });
+/// ```
+#[repr(C)]
+#[derive(Clone, Copy, Debug, PartialEq, Eq)]
+pub struct CompareAnswer {
+    /// 1 if the texts are the same, else 0.
+    pub same: usize,
+    /// How many pairs of octets were compared, 0 if the lengths differ.
+    pub pairs: usize,
+}
+
 /// What searching answers.
 ///
 /// ```

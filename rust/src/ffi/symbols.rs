@@ -1,6 +1,8 @@
 //! The C functions, as `include/capstan.h` declares them.
 
-use super::{ContextAnswer, FeedAnswer, FeedingState, LengthAnswer, ReadAnswer, SearchAnswer};
+use super::{
+    CompareAnswer, ContextAnswer, FeedAnswer, FeedingState, LengthAnswer, ReadAnswer, SearchAnswer,
+};
 
 extern "C" {
     pub fn capstan_read(
@@ -29,6 +31,8 @@ extern "C" {
         param_slots: usize,
     ) -> ReadAnswer;
     pub fn capstan_name_code(name: *const u8, name_len: usize) -> usize;
+    pub fn capstan_compare(a: *const u8, a_len: usize, b: *const u8, b_len: usize)
+        -> CompareAnswer;
     pub fn capstan_search(
         text: *const u8,
         text_len: usize,
