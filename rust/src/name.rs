@@ -1,4 +1,4 @@
-use crate::ffi;
+use crate::{compare, ffi};
 
 /// Makes `Name` of one row a name: its variant and code, its octets in small letters, and which of a
 /// link's parameters of that name are kept.
@@ -165,7 +165,7 @@ impl ByName<'_> {
     pub(crate) fn is(self, octets: &[u8]) -> bool {
         match self.0 {
             Wanted::Known(name) => Name::of(octets) == Some(name),
-            Wanted::Other(other) => other.eq_ignore_ascii_case(octets),
+            Wanted::Other(other) => compare(other, octets).same,
         }
     }
 }

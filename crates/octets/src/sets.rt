@@ -12,12 +12,15 @@ fn is_blank(c: u8) -> bool
     (c == b' ') | (c == b'\t')
 }
 
-// An octet of a token. Most are small letters.
+// An octet of a token. Most are small letters, and mostly `=` or `;` stands behind them: both are told without the bits.
 pub fn is_token(c: u8) -> bool
     ensures { λ r. ⌜ r ≡ isToken c ⌝ }
 {
     if (b'a' <= c) & (c <= b'z') {
         return true;
+    }
+    if (b':' <= c) & (c <= b'@') {
+        return false;
     }
     in_bits(0x03ff_6cfa_0000_0000, 0x57ff_ffff_c7ff_fffe, c)
 }
