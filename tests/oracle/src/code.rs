@@ -1,5 +1,7 @@
 //! The codes of parameters' names.
 
+use crate::comparison::same;
+
 /// The known names, in the order of their codes.
 const KNOWN: &[&[u8]] = &[
     b"rel",
@@ -19,15 +21,10 @@ pub const LAST_CODE: usize = KNOWN.len();
 /// kept.
 pub const LAST_ONCE: usize = 6;
 
-/// Whether two names are the same, A to Z folded to a to z.
-pub fn same_name(one: &[u8], other: &[u8]) -> bool {
-    one.eq_ignore_ascii_case(other)
-}
-
 /// The place of the name among the known ones, counted from 1; 0 if it isn't
 /// known.
 pub fn name_code(name: &[u8]) -> usize {
-    let place = KNOWN.iter().position(|known| same_name(known, name));
+    let place = KNOWN.iter().position(|known| same(known, name));
     place.map_or(0, |place| place + 1)
 }
 

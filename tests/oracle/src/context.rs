@@ -1,6 +1,6 @@
 //! The context of a link.
 
-use crate::code::same_name;
+use crate::comparison::same;
 use crate::number::{DONE, NO_SUCH_LINK};
 use crate::table::asked_links;
 
@@ -29,7 +29,7 @@ pub fn context(
         return (NO_SUCH_LINK, REFUSED, 0, 0);
     };
     let mut params = link.params.iter();
-    match params.find(|param| same_name(param.name.of(text), b"anchor")) {
+    match params.find(|param| same(param.name.of(text), b"anchor")) {
         Some(anchor) => (DONE, TEXT, anchor.value.start, anchor.value.end),
         None => (DONE, BASE, 0, base.len()),
     }

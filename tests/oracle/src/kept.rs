@@ -1,6 +1,7 @@
 //! Kept parameters.
 
-use crate::code::{kept_once, same_name};
+use crate::code::kept_once;
+use crate::comparison::same;
 use crate::record::Param;
 
 /// Whether the parameter of that place within its link has a name that is
@@ -10,7 +11,7 @@ pub fn repeats(text: &[u8], params: &[Param], place: usize) -> bool {
     kept_once(name)
         && params[..place]
             .iter()
-            .any(|earlier| same_name(earlier.name.of(text), name))
+            .any(|earlier| same(earlier.name.of(text), name))
 }
 
 /// The kept ones of a link's parameters, in order.

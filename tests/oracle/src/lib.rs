@@ -9,9 +9,11 @@
 //! word. Clarity comes before speed.
 //!
 //! Tables are lent as slots of plain numbers, and every answer begins with
-//! one of the rules' numbers ([`number`]).
+//! one of the rules' numbers ([`number`]), but for the code of a name and the
+//! comparison of two texts, which refuse nothing.
 
 mod code;
+mod comparison;
 mod context;
 mod derivation;
 mod feeding;
@@ -34,6 +36,7 @@ mod vectors;
 mod write;
 
 pub use code::{name_code, LAST_CODE, LAST_ONCE};
+pub use comparison::{compare, Comparison};
 pub use context::context;
 pub use feeding::Feeding;
 pub use listing::listing;

@@ -52,7 +52,7 @@ fn param_meaning(text: &[u8], param: &Param) -> ParamMeaning {
 }
 
 /// Capital ASCII letters as small ones; every other octet as it is.
-pub fn folded(octets: &[u8]) -> Vec<u8> {
+fn folded(octets: &[u8]) -> Vec<u8> {
     octets.to_ascii_lowercase()
 }
 

@@ -1,6 +1,7 @@
 //! Search for a link by relation.
 
-use crate::meaning::{folded, links_meanings};
+use crate::comparison::same;
+use crate::meaning::{links_meanings, LinkMeaning};
 use crate::number::{DONE, NOT_FOUND};
 use crate::table::asked_links;
 
@@ -18,9 +19,9 @@ pub fn search(
         Ok(links) => links,
         Err(number) => return (number, 0),
     };
-    let query = folded(relation);
+    let has = |link: &LinkMeaning| link.relations().iter().any(|one| same(one, relation));
     links_meanings(text, &links)
         .iter()
-        .position(|link| link.relations().contains(&query))
+        .position(has)
         .map_or((NOT_FOUND, 0), |link| (DONE, link))
 }

@@ -1,6 +1,7 @@
 //! The contract's own rows, limits, orders and laws.
 
 mod codes;
+mod comparisons;
 mod feeds;
 mod laws;
 mod limits;
@@ -58,14 +59,14 @@ impl Tables {
         )
     }
 
-    fn search(&self, relation: &str) -> (usize, usize) {
+    fn search(&self, relation: impl AsRef<[u8]>) -> (usize, usize) {
         oracle::search(
             &self.text,
             &self.link_slots,
             &self.param_slots,
             self.link_count,
             self.param_count,
-            relation.as_bytes(),
+            relation.as_ref(),
         )
     }
 
