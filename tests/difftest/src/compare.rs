@@ -7,6 +7,7 @@ mod feed;
 mod frame;
 mod read;
 mod reading;
+mod texts;
 
 use crate::shown::Difference;
 pub use asked::Asked;
@@ -16,5 +17,6 @@ pub use feed::{Expected, Fed};
 pub use frame::{feed_any, finish_any};
 pub use read::read;
 pub use reading::Reading;
+pub use texts::{compare_texts, compare_texts_of};
 
 pub type Compared<T> = Result<T, Difference>;

@@ -12,6 +12,7 @@ pub mod program;
 mod rooms;
 mod short;
 mod stored;
+mod texts;
 mod valid;
 mod wild;
 
@@ -27,6 +28,7 @@ pub fn fixed(run: &mut Run, deep: bool) -> Compared<()> {
     stored::compare(run)?;
     edges::compare(run)?;
     names::fixed(run)?;
+    texts::fixed(run)?;
     feeds::fixed(run, deep)
 }
 
@@ -40,6 +42,7 @@ pub fn seeded(run: &mut Run) -> Compared<()> {
     bad::compare(run)?;
     wild::compare(run)?;
     names::seeded(run)?;
+    texts::seeded(run)?;
     feeds::seeded(run)
 }
 

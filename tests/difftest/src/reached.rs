@@ -1,5 +1,7 @@
-//! Which numbers each entry answered, and how often; and the codes of names that a link has again.
+//! Which numbers each entry answered, and how often; the codes of names that a link has again; and
+//! how far comparisons went.
 
+use capstanbar::ffi::CompareAnswer;
 use oracle::{LAST_CODE, LAST_ONCE};
 use std::collections::BTreeMap;
 use std::fmt::Write;
@@ -16,12 +18,16 @@ pub enum Entry {
     Write,
     NameCode,
     Again,
+    Compare,
+    Same,
+    Unequal,
+    Left,
 }
 
 /// The numbers that an entry may answer.
 type Allowed = &'static [RangeInclusive<usize>];
 
-const ENTRIES: [(Entry, &str, Allowed); 9] = [
+const ENTRIES: [(Entry, &str, Allowed); 13] = [
     (Entry::Read, "read", &[0..=4]),
     (Entry::Feed, "feed", &[0..=2, 7..=7]),
     (Entry::Finish, "finish", &[0..=4, 7..=7]),
@@ -39,7 +45,26 @@ const ENTRIES: [(Entry, &str, Allowed); 9] = [
         "name_code of a name again",
         &[0..=0, LAST_ONCE + 1..=LAST_CODE],
     ),
+    (Entry::Compare, "compare", &[0..=1]),
+    (
+        Entry::Same,
+        "compare, digits of pairs if same",
+        &[0..=DIGITS],
+    ),
+    (
+        Entry::Unequal,
+        "compare, digits of pairs if unequal",
+        &[0..=DIGITS],
+    ),
+    (
+        Entry::Left,
+        "compare, digits of pairs left behind",
+        &[0..=DIGITS],
+    ),
 ];
+
+/// The longest texts that are compared have lengths of so many digits.
+const DIGITS: usize = 5;
 
 /// Stands for number 1 where the written form is too long, and not the text.
 pub const FORM_TOO_LONG: usize = usize::MAX;
@@ -51,6 +76,18 @@ pub struct Reached([BTreeMap<usize, u64>; ENTRIES.len()]);
 impl Reached {
     pub fn count(&mut self, entry: Entry, number: usize) {
         *self.0[entry as usize].entry(number).or_default() += 1;
+    }
+
+    /// Counts a comparison of texts of these lengths; where they aren't equal, there are no pairs.
+    pub fn compared(&mut self, one: usize, other: usize, answer: CompareAnswer) {
+        self.count(Entry::Compare, answer.same);
+        if answer.same == 1 {
+            return self.count(Entry::Same, digits(answer.pairs));
+        }
+        self.count(Entry::Unequal, digits(answer.pairs));
+        if one == other {
+            self.count(Entry::Left, digits(one - answer.pairs));
+        }
     }
 
     fn times(&self, entry: Entry, number: usize) -> u64 {
@@ -85,6 +122,13 @@ impl Reached {
         }
         None
     }
+}
+
+/// How many digits a number has; 0 has none.
+fn digits(number: usize) -> usize {
+    number
+        .checked_ilog10()
+        .map_or(0, |digits| digits as usize + 1)
 }
 
 fn shown(number: usize) -> String {
