@@ -1,12 +1,12 @@
-/* A libFuzzer target: headers read, written, read back and joined, held to the laws, and codes of names. It needs no second reader.
-   The library has no instrumentation; what guides the fuzzer are the answers: a malformed header's place that grows, counts that are
-   new. README.md says how to run it. */
+/* A libFuzzer target: headers read, written, read back and joined, held to the laws, codes of names, and texts compared. It needs no
+   second reader. The library has no instrumentation; what guides the fuzzer are the answers: a malformed header's place that grows,
+   counts that are new. README.md says how to run it. */
 #include "capstan.h"
 #include "lent.h"
 
 enum { LIMIT = 8192, LINKS = LIMIT / 2, PARAMS = LIMIT / 2, COUNTERS = 4096 };
 
-__attribute__((section("__libfuzzer_extra_counters"))) static uint8_t counters[5 * COUNTERS];
+__attribute__((section("__libfuzzer_extra_counters"))) static uint8_t counters[6 * COUNTERS];
 
 static void seen(size_t kind, size_t what) {
   if (what < COUNTERS) counters[kind * COUNTERS + what] = 1;
@@ -18,7 +18,7 @@ typedef struct {
   capstan_read_answer answer;
 } reading;
 
-static uint8_t *text_end, *link_end, *param_end, *out_end, *name_end;
+static uint8_t *text_end, *link_end, *param_end, *out_end, *name_end, *other_end;
 
 /* Reads in so many slots and looks at everything lent. The text is lent anew, so there is one reading at a time. */
 static reading read_in(const uint8_t *header, size_t length, size_t links, size_t params) {
@@ -122,18 +122,53 @@ static void value_law(reading r) {
   }
 }
 
+static uint8_t lower(uint8_t octet) { return octet >= 'A' && octet <= 'Z' ? octet + 32 : octet; }
+
+/* The comparison as a plain loop says it. */
+static capstan_compare_answer plainly(const uint8_t *one, size_t one_length, const uint8_t *other, size_t other_length) {
+  capstan_compare_answer answer = {one_length == other_length, 0};
+  while (answer.same && answer.pairs < one_length) {
+    answer.same = lower(one[answer.pairs]) == lower(other[answer.pairs]);
+    answer.pairs++;
+  }
+  return answer;
+}
+
+/* Both texts are lent anew, so that nothing of the input stands behind them. */
+static capstan_compare_answer compared(const uint8_t *one, size_t one_length, const uint8_t *other, size_t other_length) {
+  uint8_t *first = memcpy(name_end - one_length, one, one_length);
+  uint8_t *second = memcpy(other_end - other_length, other, other_length);
+  capstan_compare_answer due = plainly(one, one_length, other, other_length);
+  capstan_compare_answer answer = capstan_compare(first, one_length, second, other_length);
+  capstan_compare_answer turned = capstan_compare(second, other_length, first, one_length);
+  MUST(answer.same == due.same && answer.pairs == due.pairs);
+  MUST(turned.same == due.same && turned.pairs == due.pairs);
+  MUST(memcmp(first, one, one_length) == 0 && memcmp(second, other, other_length) == 0);
+  return answer;
+}
+
+/* The halves of the input; its parts before and behind the place that its first two octets say; and all of it beside a copy in the
+   other case, which is then changed in that place, as the last octet says. */
+static void compare_law(const uint8_t *text, size_t length) {
+  static uint8_t copy[2 * LIMIT];
+  size_t half = length / 2, place = length < 2 ? 0 : (256 * text[0] + text[1]) % length;
+  seen(5, compared(text, half, text + half, half).pairs);
+  compared(text, place, text + place, length - place);
+  for (size_t i = 0; i < length; i++) copy[i] = lower(text[i]) >= 'a' && lower(text[i]) <= 'z' ? text[i] ^ 32 : text[i];
+  MUST(compared(text, length, copy, length).same);
+  if (length == 0) return;
+  copy[place] ^= text[length - 1];
+  compared(text, length, copy, length);
+}
+
 /* The known names in the order of their codes; those that a link keeps once come first. */
 static const char *const names[] = {"rel", "anchor", "media", "title", "title*", "type", "hreflang", "rev"};
 enum { NAMES = sizeof names / sizeof *names, LAST_ONCE = 6 };
 
 /* The code as the list of names says it. */
 static size_t listed_code(const uint8_t *name, size_t length) {
-  for (size_t i = 0; i < NAMES; i++) {
-    size_t same = 0;
-    if (strlen(names[i]) != length) continue;
-    while (same < length && (name[same] >= 'A' && name[same] <= 'Z' ? name[same] + 32 : name[same]) == names[i][same]) same++;
-    if (same == length) return i + 1;
-  }
+  for (size_t i = 0; i < NAMES; i++)
+    if (plainly(name, length, (const uint8_t *)names[i], strlen(names[i])).same) return i + 1;
   return 0;
 }
 
@@ -174,12 +209,14 @@ int LLVMFuzzerInitialize(int *argc, char ***argv) {
   param_end = lent_end(5 * PARAMS * sizeof(size_t));
   out_end = lent_end(LIMIT);
   name_end = lent_end(2 * LIMIT);
+  other_end = lent_end(2 * LIMIT);
   return 0;
 }
 
 int LLVMFuzzerTestOneInput(const uint8_t *header, size_t length) {
   if (length > 2 * LIMIT) return -1;
   seen(4, code_of(header, length));
+  compare_law(header, length);
   capstan_read_answer a = read_amply(header, length).answer;
   MUST((a.number == 1) == (length > LIMIT));
   if (a.number == 2) {
