@@ -1,8 +1,19 @@
-//! The contenders that more than one table has. Each takes the headers in turn.
+//! The contenders that more than one table has. Each takes the headers, or what else is asked, in turn.
 
 use crate::clock::Contender;
 use crate::library::{self, LIMIT};
 use std::hint::black_box;
+
+/// How often something short is asked at once: a call takes but a few ns.
+pub const TIMES: usize = 500;
+
+pub fn asked<'a, T, A>(all: &'a [T], ask: impl Fn(&'a T) -> A + 'a) -> Contender<'a> {
+    Contender::new(move || {
+        for one in all {
+            black_box(ask(one));
+        }
+    })
+}
 
 pub fn table_loop(texts: &[Vec<u8>]) -> Contender<'_> {
     Contender::new(move || {

@@ -1,6 +1,7 @@
 //! Each entry, beside the table loop and the independent reader.
 
-use crate::clock::{least, Contender};
+use crate::clock::Contender;
+use crate::figures::{figures, Figures};
 use crate::headers::{samples, to_read, Sample};
 use crate::library::{Table, LIMIT};
 use crate::{comparing, contenders, independent, library};
@@ -61,12 +62,13 @@ fn line<T>(
     this: Contender,
     independent: impl FnMut() -> T,
 ) {
-    let table = contenders::table_loop(texts);
-    let [this, table, independent] = least([this, table, Contender::new(independent)]);
+    let Figures {
+        each,
+        to_table,
+        to_independent,
+    } = figures(texts, this, Contender::new(independent));
     let octets = texts.iter().map(|text| text.len()).sum::<usize>() / texts.len();
-    let each = this / texts.len() as f64;
     let rate = octets as f64 / each;
-    let (to_table, to_independent) = (this / table, independent / this);
     println!("| {entry} | {name} | {octets} | {each:.0} | {rate:.2} | {to_table:.2} | {to_independent:.0} |");
 }
 

@@ -1,6 +1,6 @@
 //! The library's entries, by the crate over its C interface, and the table loop.
 
-use capstanbar::ffi::{self, FeedingState, RawTable, ReadAnswer};
+use capstanbar::ffi::{self, CompareAnswer, FeedingState, RawTable, ReadAnswer};
 use std::hint::black_box;
 
 pub const LIMIT: usize = capstanbar::LIMIT;
@@ -80,6 +80,10 @@ extern "C" {
 
 pub fn name_code(name: &[u8]) -> usize {
     ffi::name_code(black_box(name))
+}
+
+pub fn compare(one: &[u8], other: &[u8]) -> CompareAnswer {
+    ffi::compare(black_box(one), black_box(other))
 }
 
 pub fn commas(text: &[u8]) -> usize {

@@ -6,11 +6,13 @@ mod comparing;
 mod contenders;
 mod entries;
 mod feeding;
+mod figures;
 mod growth;
 mod headers;
 mod independent;
 mod library;
 mod names;
+mod pairs;
 
 fn main() {
     entries::print();
@@ -22,4 +24,6 @@ fn main() {
     growth::print_feeding();
     println!();
     names::print();
+    println!();
+    pairs::print();
 }

@@ -1,8 +1,9 @@
 //! The codes of names, beside the table loop over the same octets and beside the independent reader, which compares with one known
 //! name after another.
 
-use crate::clock::{least, Contender};
-use crate::{contenders, library};
+use crate::contenders::{asked, TIMES};
+use crate::figures::{figures, Figures};
+use crate::library;
 use std::hint::black_box;
 
 /// Known names, and unknown ones of the same length, some of which differ only in the last octet.
@@ -19,9 +20,6 @@ const ALONE: [&[u8]; 11] = [
     b"hreflanh",
     b"crossori",
 ];
-
-/// How often a name is asked for at once: a call takes but a few ns.
-const TIMES: usize = 500;
 
 pub fn print() {
     println!("The code of a name; each figure is for one name:\n");
@@ -51,25 +49,19 @@ fn line(shown: &str, names: &[Vec<u8>]) {
     for name in names {
         assert_eq!(library::name_code(name), oracle::name_code(name), "{shown}");
     }
-    let [this, table, independent] = least([
-        asked(names, library::name_code),
-        contenders::table_loop(names),
+    let Figures {
+        each,
+        to_table,
+        to_independent,
+    } = figures(
+        names,
+        asked(names, |name| library::name_code(name)),
         asked(names, |name| oracle::name_code(black_box(name))),
-    ]);
+    );
     let code = match names.iter().all(|name| *name == names[0]) {
         true => library::name_code(&names[0]).to_string(),
         false => String::new(),
     };
     let octets = names.iter().map(Vec::len).sum::<usize>() / names.len();
-    let each = this / names.len() as f64;
-    let (to_table, to_independent) = (this / table, independent / this);
     println!("| {shown} | {code} | {octets} | {each:.1} | {to_table:.2} | {to_independent:.1} |");
-}
-
-fn asked<'a>(names: &'a [Vec<u8>], code: impl Fn(&[u8]) -> usize + 'a) -> Contender<'a> {
-    Contender::new(move || {
-        for name in names {
-            black_box(code(name));
-        }
-    })
 }
