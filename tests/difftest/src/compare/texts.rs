@@ -26,6 +26,9 @@ pub fn compare_texts_of(run: &mut Run, one: &[u8], other: &[u8]) -> Compared<boo
         pairs: expected.pairs,
     };
     equal(|| asked(one, other), answer, numbers)?;
+    let told = capstanbar::compare(one, other);
+    let told = (told.same, told.pairs);
+    equal(|| asked(one, other), told, (expected.same, expected.pairs))?;
     laws(one, other, answer)?;
     run.reached.compared(one.len(), other.len(), answer);
     Ok(expected.same)
