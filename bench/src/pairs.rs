@@ -68,7 +68,7 @@ fn line(shown: &str, one: &[u8], other: &[u8]) {
         true => one.len().to_string(),
         false => format!("{} and {}", one.len(), other.len()),
     };
-    // What one pair or none takes is the call.
+    // What one pair or none takes is mostly the call.
     let pairs = answer.pairs;
     let of_a_pair = match pairs {
         0 | 1 => String::new(),

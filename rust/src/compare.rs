@@ -12,8 +12,8 @@ use crate::ffi;
 pub struct Comparison {
     /// Whether the texts are the same, whatever the case of letters.
     pub same: bool,
-    /// How many pairs of octets were compared: none if the lengths differ; else those up to the first
-    /// unequal pair, with it, or all.
+    /// How many pairs of octets were compared: 0 if the lengths differ; else one more than the place
+    /// of the first unequal pair, or the length if there is none.
     pub pairs: usize,
 }
 

@@ -44,7 +44,7 @@ impl Compared {
     }
 }
 
-// Compares two texts: their lengths first, of which different ones decide, and then pair by pair, of which the first unequal one does.
+// Compares two texts: lengths first, and where these are equal pair by pair, as far as the first unequal pair.
 pub fn compare(x: &[u8], y: &[u8]) -> Compared
     ensures { λ r. ⌜ r .same ≡ sameFolded (now (x .entry)) (now (y .entry)) ⌝ }
     ensures { λ r. ⌜ r .pairs ≡ pairsCompared (now (x .entry)) (now (y .entry)) ⌝ }
@@ -58,10 +58,8 @@ pub fn compare(x: &[u8], y: &[u8]) -> Compared
     let mut i = 0;
     while i < x.len() {
         if !same_octet(x[i], y[i]) {
-            return Compared {
-                same: false,
-                pairs: i + 1,
-            };
+            let pairs = i + 1;
+            return Compared { same: false, pairs };
         }
         i += 1;
     }

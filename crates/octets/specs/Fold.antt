@@ -24,12 +24,12 @@ same (c ∷ s) (d ∷ t) = eqb c d && same s t
 unfoldable pub sameFolded : List ℕ → List ℕ → Bool
 sameFolded s t = same (folded s) (folded t)
 
--- the pairs up to and with the first that is unequal, or all
+-- how many pairs there are up to and with the first that is unequal, or in all
 abbrev pub upToUnequal : List ℕ → List ℕ → ℕ
 upToUnequal [] t = 0
 upToUnequal (c ∷ s) [] = 0
 upToUnequal (c ∷ s) (d ∷ t) = cond (eqb c d) (suc (upToUnequal s t)) 1
 
--- how many pairs of octets are compared to tell whether two texts are the same as names are: none if the lengths differ
+-- how many pairs of octets the folded comparison of two texts takes: none if the lengths differ
 unfoldable pub pairsCompared : List ℕ → List ℕ → ℕ
 pairsCompared s t = cond (eqb (length s) (length t)) (upToUnequal (folded s) (folded t)) 0

@@ -11,7 +11,8 @@ abbrev pub Agree : List ℕ → List ℕ → ℕ → Type 0
 Agree s t i = fold (getD s i 0) ≡ fold (getD t i 0)
 
 -- The pairs compared tell the answer. `same`, `only-so`: the texts are the same exactly if the lengths are equal, and all pairs were
--- compared and agree. `differ`: of other texts of one length, the last pair compared is the first that doesn't agree.
+-- compared and agree. `differ`: of other texts of one length, the last pair compared is the first that doesn't agree. `lengths`: of
+-- texts of other lengths no pair is compared. `either-way`: the order of the two makes no difference.
 pub record PairsTell : Type 0 where
   pub same : (s t : List ℕ) → sameFolded s t ≡ true
       → (length s ≡ length t) × (pairsCompared s t ≡ length s) × ((i : ℕ) → i < pairsCompared s t → Agree s t i)

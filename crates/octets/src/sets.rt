@@ -1,5 +1,5 @@
 // A test for each set of octets that the grammar names. The larger sets are held as bits, so that a test has no chain of comparisons
-// and no branch that depends on which octet of the set it is.
+// and, but for a token's small letters and its usual end, no branch that depends on which octet it is.
 ghost use mathlib.Core.Path.{_≡_};
 ghost use Rattle.octets.specs.Sets.{isBlank, isToken, isPlain, isEscapable, isTarget, isHex};
 ghost use Rattle.octets.specs.Member.{isIn};

@@ -28,8 +28,8 @@ shared-slice-read-same-octet-2 c = omega arith
 same-octet-requires : tie.Need-same-octet-requires Inv-loop μ-loop
 same-octet-requires c κs = search needs
 
-add-t14 : tie.Need-add-t14 Inv-loop μ-loop
-add-t14 c = omega arith
+add-pairs : tie.Need-add-pairs Inv-loop μ-loop
+add-pairs c = omega arith
 
 returns-2 : tie.Need-returns-2 Inv-loop μ-loop
 returns-2 c =
@@ -59,7 +59,7 @@ compare-spec =
     shared-slice-read-same-octet
     shared-slice-read-same-octet-2
     same-octet-requires
-    add-t14
+    add-pairs
     returns-2
     add-i
     loop-less
