@@ -28,6 +28,7 @@ pub enum Refusal {
     NoOutputRoom,
     NoSuchLink,
     NotFound,
+    UnknownEdition,
 }
 
 impl Refusal {
@@ -43,6 +44,7 @@ impl Refusal {
             Refusal::NoOutputRoom => 7,
             Refusal::NoSuchLink => 8,
             Refusal::NotFound => 9,
+            Refusal::UnknownEdition => 10,
         }
     }
 }

@@ -35,20 +35,22 @@ fn counts_of(links: usize, params: usize) -> Counts
 // Reads a header.
 #[no_mangle]
 pub extern "C" fn capstan_read(
+    edition: usize,
     header: &[u8],
     links: &mut [usize],
     params: &mut [usize],
 ) -> ReadNumbers
     ensures { λ r. ⌜
-        Read (now (header .entry)) (now (links .entry)) (now (params .entry))
+        Read edition (now (header .entry)) (now (links .entry)) (now (params .entry))
         (readOut r (now (links .exit)) (now (params .exit))) ⌝ }
 {
-    reader::read(header, links, params).numbers()
+    reader::read(edition, header, links, params).numbers()
 }
 
 // Searches a table for a link by relation.
 #[no_mangle]
 pub extern "C" fn capstan_search(
+    edition: usize,
     text: &[u8],
     links: &[usize],
     params: &[usize],
@@ -57,17 +59,18 @@ pub extern "C" fn capstan_search(
     relation: &[u8],
 ) -> SearchNumbers
     ensures { λ r. ⌜
-        Search
+        Search edition
         (tableOf (now (text .entry)) (now (links .entry)) (now (params .entry)) «link_count» «param_count»)
         (now (relation .entry)) (searchOut r) ⌝ }
 {
     let counts = counts_of(link_count, param_count);
-    search::search(text, links, params, counts, relation).numbers()
+    search::search(edition, text, links, params, counts, relation).numbers()
 }
 
 // Tells where a link's context lies, in the text or in the base.
 #[no_mangle]
 pub extern "C" fn capstan_context<'a>(
+    edition: usize,
     text: &'a [u8],
     base: &'a [u8],
     links: &[usize],
@@ -77,18 +80,27 @@ pub extern "C" fn capstan_context<'a>(
     link: usize,
 ) -> ContextNumbers
     ensures { λ r. ⌜
-        ContextTold
+        ContextTold edition
         (tableOf (now (text .entry)) (now (links .entry)) (now (params .entry)) «link_count» «param_count»)
         (now (base .entry)) link r ⌝ }
 {
     let counts = counts_of(link_count, param_count);
-    let answer = context::context_number(text, base, links, params, counts, LinkNumber(link));
+    let answer = context::context_number(
+        edition,
+        text,
+        base,
+        links,
+        params,
+        counts,
+        LinkNumber(link),
+    );
     answer.numbers(base.len())
 }
 
 // Copies the meaning of the value of the parameter at `place` within the link, counted from 0.
 #[no_mangle]
 pub extern "C" fn capstan_value(
+    edition: usize,
     text: &[u8],
     links: &[usize],
     params: &[usize],
@@ -99,17 +111,18 @@ pub extern "C" fn capstan_value(
     out: &mut [u8],
 ) -> LengthNumbers
     ensures { λ r. ⌜
-        Copy
+        Copy edition
         (tableOf (now (text .entry)) (now (links .entry)) (now (params .entry)) «link_count» «param_count»)
         link place (now (out .entry)) (lengthOut r (now (out .exit))) ⌝ }
 {
     let counts = counts_of(link_count, param_count);
-    copy::value(text, links, params, counts, LinkNumber(link), place, out).numbers()
+    copy::value(edition, text, links, params, counts, LinkNumber(link), place, out).numbers()
 }
 
 // Writes a table.
 #[no_mangle]
 pub extern "C" fn capstan_write(
+    edition: usize,
     text: &[u8],
     links: &[usize],
     params: &[usize],
@@ -118,20 +131,20 @@ pub extern "C" fn capstan_write(
     out: &mut [u8],
 ) -> LengthNumbers
     ensures { λ r. ⌜
-        Write
+        Write edition
         (tableOf (now (text .entry)) (now (links .entry)) (now (params .entry)) «link_count» «param_count»)
         (now (out .entry)) (lengthOut r (now (out .exit))) ⌝ }
 {
     let counts = counts_of(link_count, param_count);
-    writer::write(text, links, params, counts, out).numbers()
+    writer::write(edition, text, links, params, counts, out).numbers()
 }
 
 // Begins a feeding.
 #[no_mangle]
-pub extern "C" fn capstan_start() -> Feeding
-    ensures { λ r. ⌜ stateOf r ≡ start ⌝ }
+pub extern "C" fn capstan_start(edition: usize) -> Feeding
+    ensures { λ r. ⌜ stateOf r ≡ start edition ⌝ }
 {
-    feeding::start()
+    feeding::start(edition)
 }
 
 // Takes one part more of a header.

@@ -1,4 +1,4 @@
-// A link's context: its `anchor` value as written, else the whole base. Both entries refuse a text that is too long, a table that is
+// A link's context: its `anchor` value as written, else the whole base. Both entries refuse an edition that there isn't, a text that is too long, a table that is
 // not good, and a link that isn't there.
 ghost use Prim.Native.Nat.{_<_};
 ghost use lib.ListN.{length};
@@ -41,6 +41,7 @@ fn anchor_of(
 
 // Where a link's context lies, or why it is refused.
 fn context_of(
+    edition: usize,
     text: &[u8],
     links: &[usize],
     params: &[usize],
@@ -51,7 +52,7 @@ fn context_of(
         IsContext (tableOf (now (text .entry)) (now (links .entry)) (now (params .entry)) (counts .links) (counts .params))
         (link .0) r ⌝ }
 {
-    let state = table_check::state_of(text, links, params, counts);
+    let state = table_check::state_of(edition, text, links, params, counts);
     match state {
         TableState::Refused(why) => ContextAnswer::Refused(why),
         TableState::Usable => {
@@ -66,6 +67,7 @@ fn context_of(
 
 // The context itself: a part of the text, or of the base. Refused, it is the base's first zero octets.
 pub fn context<'a>(
+    edition: usize,
     text: &'a [u8],
     base: &'a [u8],
     links: &[usize],
@@ -77,7 +79,7 @@ pub fn context<'a>(
         HandsBack (tableOf (now (text .entry)) (now (links .entry)) (now (params .entry)) (counts .links) (counts .params))
         (link .0) (text .entry) (base .entry) r ⌝ }
 {
-    let answer = context_of(text, links, params, counts, link);
+    let answer = context_of(edition, text, links, params, counts, link);
     match answer {
         ContextAnswer::Anchored(span) => {
             let from = span.from.0;
@@ -91,6 +93,7 @@ pub fn context<'a>(
 
 // The number of the context, and where it lies, on the same inputs.
 pub fn context_number<'a>(
+    edition: usize,
     text: &'a [u8],
     base: &'a [u8],
     links: &[usize],
@@ -102,5 +105,5 @@ pub fn context_number<'a>(
         Context (tableOf (now (text .entry)) (now (links .entry)) (now (params .entry)) (counts .links) (counts .params))
         (now (base .entry)) (link .0) (contextOut (length (now (base .entry))) r) ⌝ }
 {
-    context_of(text, links, params, counts, link)
+    context_of(edition, text, links, params, counts, link)
 }

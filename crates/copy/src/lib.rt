@@ -46,6 +46,7 @@ fn copy_at(
 
 // Writes what the value of the parameter means that stands at `index` within the link, and answers how many octets that is.
 pub fn value(
+    edition: usize,
     text: &[u8],
     links: &[usize],
     params: &[usize],
@@ -57,7 +58,7 @@ pub fn value(
     ensures { λ r. ⌜ Copy (tableOf (now (text .entry)) (now (links .entry)) (now (params .entry)) (counts .links) (counts .params))
         (link .0) index (now (out .entry)) (lengthOut (lengthNumbers r) (now (out .exit))) ⌝ }
 {
-    let state = state_of(text, links, params, counts);
+    let state = state_of(edition, text, links, params, counts);
     match state {
         TableState::Refused(why) => LengthAnswer::Refused(why),
         TableState::Usable => copy_at(text, links, params, counts, link, index, out),

@@ -7,6 +7,7 @@ ghost use Rattle.octets.specs.Member.{isIn};
 ghost use Rattle.cursor.specs.Passed.{Passed, Looked, LookedIn};
 use kinds::Place;
 use kinds::Span;
+use octets::editions::Edition;
 use octets::sets::Set;
 
 pub struct Cursor {
@@ -89,6 +90,17 @@ impl Cursor {
         ensures { λ r. ⌜ Passed isToken (now (s .entry)) (self .at .0) (r .at .0) ⌝ }
     {
         self.past(s, Set::Token)
+    }
+
+    // Past what a value without quotes holds behind its token octets: in the older edition a run that begins with a further octet.
+    pub fn past_further(self, s: &[u8], edition: Edition) -> Cursor
+        requires { ⌜ Behind isToken (now s) (self .at .0) ⌝ }
+        ensures { λ r. ⌜ Passed (isBare (further edition)) (now (s .entry)) (self .at .0) (r .at .0) ⌝ }
+    {
+        match edition {
+            Edition::Rfc8288 => self,
+            Edition::Rfc5988 => self.past(s, Set::Ptoken),
+        }
     }
 
     // Past a run of octets that stand for themselves in a target.

@@ -16,14 +16,18 @@ use answers::read_answer::ReadAnswer;
 use kinds::OutPlace;
 use kinds::Place;
 use kinds::Span;
+use octets::editions::Asked;
+use octets::editions::Edition;
+use octets::editions::edition_of;
 use part_scan::PartScan;
 use part_scan::scan_part;
 
-// The state that a feeding starts with.
-pub fn start() -> Feeding
-    ensures { λ r. ⌜ stateOf r ≡ start ⌝ }
+// The state that a feeding starts with, in the edition of this number, if there is one.
+pub fn start(edition: usize) -> Feeding
+    ensures { λ r. ⌜ stateOf r ≡ start edition ⌝ }
 {
     Feeding {
+        edition,
         phase: 0,
         total: 0,
         place: 0,
@@ -43,11 +47,12 @@ fn total_with(before: usize, more: usize) -> usize
     before + more
 }
 
-// The state behind a refusal: its phase stays, and only the total and the place move.
+// The state behind a refusal: its edition and phase stay, and only the total and the place move.
 fn moved(state: Feeding, total: usize, place: usize) -> Feeding
-    ensures { λ r. ⌜ stateOf r ≡ record { phase = state .phase; total = total; place = place } ⌝ }
+    ensures { λ r. ⌜ stateOf r ≡ record { edition = state .edition; phase = state .phase; total = total; place = place } ⌝ }
 {
     Feeding {
+        edition: state.edition,
         phase: state.phase,
         total,
         place,
@@ -65,14 +70,14 @@ fn whole(part: &[u8]) -> Span
 }
 
 // A part behind octets that begin some header, for which there is room.
-fn take(state: Feeding, part: &[u8], buffer: &mut [u8]) -> FeedAnswer
+fn take(edition: Edition, state: Feeding, part: &[u8], buffer: &mut [u8]) -> FeedAnswer
     requires { ⌜ Takes (stateOf state) (now part) (now buffer) ⌝ }
     ensures { λ r. ⌜ Feeds (stateOf state) (now (part .entry)) (now (buffer .entry))
         (feedOut (feedNumbers r) (now (buffer .exit))) (stateOf (feedNumbers r .next)) ⌝ }
 {
     let before = state.total;
     let total = before + part.len();
-    match scan_part(part, state.phase) {
+    match scan_part(edition, part, state.phase) {
         PartScan::Stuck(at) => {
             let place = before + at.0;
             FeedAnswer::Malformed(Place(place), moved(state, total, place))
@@ -80,6 +85,7 @@ fn take(state: Feeding, part: &[u8], buffer: &mut [u8]) -> FeedAnswer
         PartScan::Through(phase) => {
             putting::part::put_part(part, whole(part), buffer, OutPlace(before));
             FeedAnswer::Begun(Feeding {
+                edition: state.edition,
                 phase,
                 total,
                 place: total,
@@ -89,7 +95,7 @@ fn take(state: Feeding, part: &[u8], buffer: &mut [u8]) -> FeedAnswer
 }
 
 // One part more. Within the limit, the place lies before the total just if the octets so far begin no header.
-pub fn feed(state: Feeding, part: &[u8], buffer: &mut [u8]) -> FeedAnswer
+fn feed_in(edition: Edition, state: Feeding, part: &[u8], buffer: &mut [u8]) -> FeedAnswer
     ensures { λ r. ⌜ Feeds (stateOf state) (now (part .entry)) (now (buffer .entry))
         (feedOut (feedNumbers r) (now (buffer .exit))) (stateOf (feedNumbers r .next)) ⌝ }
 {
@@ -105,11 +111,23 @@ pub fn feed(state: Feeding, part: &[u8], buffer: &mut [u8]) -> FeedAnswer
     if place < before {
         return FeedAnswer::Malformed(Place(place), moved(state, sum, place));
     }
-    take(state, part, buffer)
+    take(edition, state, part, buffer)
+}
+
+// One part more, if the edition is known that was asked for at the start.
+pub fn feed(state: Feeding, part: &[u8], buffer: &mut [u8]) -> FeedAnswer
+    ensures { λ r. ⌜ Feeds (stateOf state) (now (part .entry)) (now (buffer .entry))
+        (feedOut (feedNumbers r) (now (buffer .exit))) (stateOf (feedNumbers r .next)) ⌝ }
+{
+    match edition_of(state.edition) {
+        Asked::Unknown => FeedAnswer::Refused(Refusal::UnknownEdition, state),
+        Asked::Known(edition) => feed_in(edition, state, part, buffer),
+    }
 }
 
 // Reads what was gathered. Octets that begin no header were not gathered whole: their place is remembered.
-pub fn finish(
+fn finish_in(
+    edition: Edition,
     state: Feeding,
     gathered: &[u8],
     links: &mut [usize],
@@ -129,5 +147,21 @@ pub fn finish(
     if place < total {
         return ReadAnswer::Malformed(Place(place));
     }
-    reader::read(&gathered[..total], links, params)
+    reader::read_in(edition, &gathered[..total], links, params)
+}
+
+// Reads what was gathered, if the edition is known that was asked for at the start.
+pub fn finish(
+    state: Feeding,
+    gathered: &[u8],
+    links: &mut [usize],
+    params: &mut [usize],
+) -> ReadAnswer
+    ensures { λ r. ⌜ Finishes (stateOf state) (now (gathered .entry)) (now (links .entry)) (now (params .entry))
+        (readOut (readNumbers r) (now (links .exit)) (now (params .exit))) ⌝ }
+{
+    match edition_of(state.edition) {
+        Asked::Unknown => ReadAnswer::Refused(Refusal::UnknownEdition),
+        Asked::Known(edition) => finish_in(edition, state, gathered, links, params),
+    }
 }

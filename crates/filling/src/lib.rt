@@ -4,14 +4,15 @@ use crate::link::fill_link;
 use cursor::Cursor;
 use kinds::LinkNumber;
 use kinds::ParamNumber;
+use octets::editions::Edition;
 
 mod link;
 mod params;
 
 // Writes the records of all links. Between two of them stand blanks and commas alone.
-pub fn fill(s: &[u8], links: &mut [usize], params: &mut [usize])
-    requires { ⌜ ReadingFits (now s) (now links) (now params) ⌝ }
-    ensures { λ _. ⌜ TablesFilled (now (s .entry))
+pub fn fill(edition: Edition, s: &[u8], links: &mut [usize], params: &mut [usize])
+    requires { ⌜ ReadingFits (further edition) (now s) (now links) (now params) ⌝ }
+    ensures { λ _. ⌜ TablesFilled (further edition) (now (s .entry))
         (now (links .entry)) (now (links .exit)) (now (params .entry)) (now (params .exit)) ⌝ }
 {
     let mut c = Cursor::start();
@@ -26,7 +27,7 @@ pub fn fill(s: &[u8], links: &mut [usize], params: &mut [usize])
             c = i.past_octet(s);
             continue;
         }
-        let behind = fill_link(s, i.past_octet(s), links, n, params, m);
+        let behind = fill_link(edition, s, i.past_octet(s), links, n, params, m);
         n = n.next();
         m = behind.next;
         let d = behind.cursor;

@@ -6,10 +6,12 @@ use cursor::Cursor;
 use kinds::LinkNumber;
 use kinds::ParamNumber;
 use known::target::target_end;
+use octets::editions::Edition;
 use records::LinkRecord;
 
 // Writes the records of a link and of its kept parameters.
 pub fn fill_link(
+    edition: Edition,
     s: &[u8],
     from: Cursor,
     links: &mut [usize],
@@ -17,12 +19,12 @@ pub fn fill_link(
     params: &mut [usize],
     m: ParamNumber,
 ) -> Behind
-    requires { ⌜ BeforeLink (now s) (now links) (now params) (from .at .0) (n .0) (m .0) ⌝ }
-    ensures { λ r. ⌜ LinkFilled (now (s .entry)) (from .at .0) (r .cursor .at .0) (n .0) (m .0) (r .next .0)
+    requires { ⌜ BeforeLink (further edition) (now s) (now links) (now params) (from .at .0) (n .0) (m .0) ⌝ }
+    ensures { λ r. ⌜ LinkFilled (further edition) (now (s .entry)) (from .at .0) (r .cursor .at .0) (n .0) (m .0) (r .next .0)
         (now (links .entry)) (now (links .exit)) (now (params .entry)) (now (params .exit)) ⌝ }
 {
     let t = target_end(s, from);
-    let behind = fill_params(s, t.past_octet(s), params, m);
+    let behind = fill_params(edition, s, t.past_octet(s), params, m);
     let target = from.span_to(t);
     let r = LinkRecord {
         target,

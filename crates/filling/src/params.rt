@@ -8,6 +8,7 @@ use cursor::Cursor;
 use kinds::ParamNumber;
 use known::param::read_param;
 use names::Seen;
+use octets::editions::Edition;
 use records::ParamRecord;
 
 // The cursor behind a link's parameters, and the number of the next parameter.
@@ -29,9 +30,15 @@ fn keep(params: &mut [usize], m: ParamNumber, r: ParamRecord, again: bool) -> Pa
 }
 
 // Writes the records of a link's kept parameters, from number m on.
-pub fn fill_params(s: &[u8], from: Cursor, params: &mut [usize], m: ParamNumber) -> Behind
-    requires { ⌜ BeforeParams (now s) (now params) (from .at .0) (m .0) ⌝ }
-    ensures { λ r. ⌜ ParamsFilled (now (s .entry)) (from .at .0) (r .cursor .at .0) (m .0) (r .next .0)
+pub fn fill_params(
+    edition: Edition,
+    s: &[u8],
+    from: Cursor,
+    params: &mut [usize],
+    m: ParamNumber,
+) -> Behind
+    requires { ⌜ BeforeParams (further edition) (now s) (now params) (from .at .0) (m .0) ⌝ }
+    ensures { λ r. ⌜ ParamsFilled (further edition) (now (s .entry)) (from .at .0) (r .cursor .at .0) (m .0) (r .next .0)
         (now (params .entry)) (now (params .exit)) ⌝ }
 {
     let mut c = from;
@@ -42,7 +49,7 @@ pub fn fill_params(s: &[u8], from: Cursor, params: &mut [usize], m: ParamNumber)
         if !i.sees(s, b';') {
             return Behind { cursor: i, next: n };
         }
-        let p = read_param(s, i.past_octet(s).past_blanks(s));
+        let p = read_param(edition, s, i.past_octet(s).past_blanks(s));
         let r = p.record;
         let name = r.name;
         let code = names::code(s, name);

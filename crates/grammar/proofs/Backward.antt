@@ -29,6 +29,7 @@ use Rattle.grammar.specs.Grammar.{
   token,
   quoted,
   wider,
+  from-token,
   Parameter,
   valueless,
   valued,
@@ -234,7 +235,7 @@ module _ (extra : Extra) (s : List ℕ) where
 
       begun : {j f : ℕ} → In s isToken i → BareRest extra s (suc i) j f → Value extra s i j i j f
       begun t (all-token r) = token (record { first = t; rest = r })
-      begun t (turns-wide r x w) = wider (run-more t r) x w
+      begun t (turns-wide r x w) = wider (from-token (run-more t r) x w)
 
       go : {R : List Link} (x : Bool) → isBlank c ≡ x → (y : Bool) → eqb c 34 ≡ y → (z : Bool) → isToken c ≡ z
           → (w : Bool) → extra c ≡ w
@@ -245,7 +246,7 @@ module _ (extra : Extra) (s : List ℕ) where
       go true q y _ z _ w _ (r-equals bl v a) = r-equals (run-more (found h q) bl) v a
       go false _ true q z _ w _ (r-quote t k a) = r-equals run-end (quoted (stands 34 h q) t k) a
       go false _ false _ true q w _ (r-bare t a) = r-equals run-end (begun (found h q) t) a
-      go false _ false _ false _ true q (r-wide t a) = r-equals run-end (wider run-end (found h q) t) a
+      go false _ false _ false _ true q (r-wide t a) = r-equals run-end (wider (from-token run-end (found h q) t)) a
 
   bare-bwd : (o : Open) (n e v : ℕ) {i : ℕ} {R : List Link} → i < length s
       → Rest extra s (step extra (bare o n e v) i (getD s i 0)) (suc i) R → Rest extra s (bare o n e v) i R

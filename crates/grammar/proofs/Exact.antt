@@ -29,6 +29,7 @@ use Rattle.grammar.specs.Grammar.{
   token,
   quoted,
   wider,
+  from-token,
   Parameter,
   valueless,
   valued,
@@ -149,8 +150,8 @@ module _ (extra : Extra) (s : List ℕ) where
   at-the-end w (r-equals (run-more b r) v a) = over w (b .inside)
   at-the-end w (r-equals run-end (token t) a) = over w (t .first .inside)
   at-the-end w (r-equals run-end (quoted q t k) a) = over w (q .inside)
-  at-the-end w (r-equals run-end (wider run-end x r) a) = over w (x .inside)
-  at-the-end w (r-equals run-end (wider (run-more c t) x r) a) = over w (c .inside)
+  at-the-end w (r-equals run-end (wider (from-token run-end x r)) a) = over w (x .inside)
+  at-the-end w (r-equals run-end (wider (from-token (run-more c t) x r)) a) = over w (c .inside)
   at-the-end w (r-bare (all-token (run-more c r)) a) = over w (c .inside)
   at-the-end w (r-bare {o = o} {n = n} {e = e} {v = v} {j = j} (all-token run-end) a) =
       ap some (after-end (add (param n e v j 1) o) w a)

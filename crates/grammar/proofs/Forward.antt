@@ -30,6 +30,7 @@ use Rattle.grammar.specs.Grammar.{
   token,
   quoted,
   wider,
+  from-token,
   Parameter,
   valueless,
   valued,
@@ -193,9 +194,9 @@ module _ (extra : Extra) (apart : Admissible extra) (s : List ℕ) where
   forward h (r-equals run-end (token t) a) =
       rw (token-not-blank _ (t .first .is), token-not-quote _ (t .first .is), t .first .is) (r-bare (all-token (t .rest)) a)
   forward h (r-equals run-end (quoted q t k) a) = rw (q .is) (r-quote t k a)
-  forward h (r-equals run-end (wider run-end x r) a) =
+  forward h (r-equals run-end (wider (from-token run-end x r)) a) =
       rw (extra-not-blank extra apart _ (x .is), not-eqb extra 34 _ (apart .quote) (x .is), apart .token _ (x .is), x .is) (r-wide r a)
-  forward h (r-equals run-end (wider (run-more c t) x r) a) =
+  forward h (r-equals run-end (wider (from-token (run-more c t) x r)) a) =
       rw (token-not-blank _ (c .is), token-not-quote _ (c .is), c .is) (r-bare (turns-wide t x r) a)
   forward h (r-bare (all-token (run-more c r)) a) = rw (c .is) (r-bare (all-token r) a)
   forward h (r-bare {o = o} {n = n} {e = e} {v = v} {j = j} (all-token run-end) a) =

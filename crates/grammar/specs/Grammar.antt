@@ -49,13 +49,10 @@ module _ (s : List ℕ) where
     octet : {i j : ℕ} → In isTarget i → Target (suc i) j → Target i j
     triple : {i j : ℕ} → At i 37 → In isHex (suc i) → In isHex (suc (suc i)) → Target (suc (suc (suc i))) j → Target i j
 
--- The octets that a bare value may hold beside token octets: what editions of the grammar differ in.
+-- The octets that a bare value may hold beside token octets: what editions of the grammar differ in (`octets/Editions.further` has
+-- those of each edition; RFC 8288's has none, so that its bare values are tokens and it never gives form 3).
 abbrev pub Extra : Type 0
 Extra = ℕ → Bool
-
--- RFC 8288's edition has none, so that its bare values are tokens and it never gives form 3
-abbrev pub rfc8288 : Extra
-rfc8288 c = false
 
 -- what the laws ask of an edition: its further octets are no token octets and none of those that end or begin a value
 pub record Admissible (extra : Extra) : Type 0 where
@@ -72,12 +69,16 @@ abbrev pub isBare : Extra → ℕ → Bool
 isBare extra c = isToken c || extra c
 
 module _ (extra : Extra) (s : List ℕ) where
-  -- a value, with its span's start and end and its form: a token is form 1, a quoted string form 2, and a bare value
-  -- whose octet at k is the first outside a token form 3 (never so in RFC 8288's edition)
+  -- a bare value that holds an octet outside a token; the one at k is the first
+  pub data Wider : ℕ → ℕ → Type 0 where
+    from-token : {i k j : ℕ} → Run s isToken i k → In s extra k → Run s (isBare extra) (suc k) j → Wider i j
+
+  -- a value, with its span's start and end and its form: a token is form 1, a quoted string form 2, and a bare value with any octet
+  -- outside a token form 3
   pub data Value : ℕ → ℕ → ℕ → ℕ → ℕ → Type 0 where
     token : {i j : ℕ} → Token s i j → Value i j i j 1
     quoted : {i k : ℕ} → At s i 34 → Inside s (suc i) k → At s k 34 → Value i (suc k) (suc i) k 2
-    wider : {i k j : ℕ} → Run s isToken i k → In s extra k → Run s (isBare extra) (suc k) j → Value i j i j 3
+    wider : {i j : ℕ} → Wider i j → Value i j i j 3
 
   -- a parameter: a name and BWS, then optionally `=`, BWS and a value
   pub data Parameter : ℕ → ℕ → Param → Type 0 where

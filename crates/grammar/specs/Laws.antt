@@ -9,12 +9,23 @@ use lib.ListN.{length, getD}
 use Rattle.octets.specs.Sets.{all, between, isOctet}
 use Rattle.octets.specs.Text.{octets}
 use Rattle.octets.specs.Fold.{same}
+use Rattle.octets.specs.Editions.{further}
+use Rattle.octets.specs.declared.editions.Edition.{Edition}
+use Rattle.octets.specs.declared.editions.Edition.the-variants.{Rfc8288}
 use Rattle.grammar.specs.Link.{Link, Param}
 use Rattle.grammar.specs.Grammar.{Extra, Admissible, Field}
 use Rattle.grammar.specs.Kept.{nameOf, among, knownNames, codeOf, isOnce, keepAfter, Reading}
 use Rattle.grammar.specs.Place.{Malformed, Begins, Place}
 use Rattle.grammar.specs.Join.{Padded, join, Readable, JoinReads}
 use Rattle.grammar.specs.Machine.{gap, run, finish}
+
+-- the further octets of each edition keep apart, so that every law below holds in it
+abbrev pub EditionsApart : Type 0
+EditionsApart = (e : Edition) → Admissible (further e)
+
+-- whatever RFC 8288's edition reads, every edition reads to the same links
+abbrev pub ReadAlike : Type 0
+ReadAlike = (extra : Extra) (s : List ℕ) (K : List Link) → Reading (further Rfc8288) s K → Reading extra s K
 
 -- the machine is exact: a header is derived with the links R just if the machine, run over all of it, finishes with R
 pub record MachineExact : Type 0 where

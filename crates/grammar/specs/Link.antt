@@ -4,7 +4,7 @@ use mathlib.Core.List.{List}
 
 -- One parameter: where its name and its value stand, and the value's form. A span's end is one past its last octet.
 -- Form 0 is no value (both value places are the name's end), 1 a token, 2 a quoted string (the span lies inside the quotes,
--- backslashes still there). Form 3 belongs to editions of the grammar with further octets; RFC 8288's never gives it.
+-- backslashes still there), 3 a bare value with an octet outside a token, which only an edition with further octets gives.
 pub record Param : Type 0 where
   pub nameFrom : ℕ
   pub nameTo : ℕ

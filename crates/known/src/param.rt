@@ -4,6 +4,7 @@ ghost use Rattle.scan_parts.specs.Parsed.{Parsed};
 ghost use Rattle.known.specs.Known.{KnownParam};
 use crate::value::read_value;
 use cursor::Cursor;
+use octets::editions::Edition;
 use records::ParamRecord;
 
 // A parameter's record, and the cursor behind it.
@@ -12,15 +13,15 @@ pub struct ParamRead {
     pub next: Cursor,
 }
 
-pub fn read_param(s: &[u8], from: Cursor) -> ParamRead
-    requires { ⌜ KnownParam (now s) (from .at .0) ⌝ }
-    ensures { λ r. ⌜ Parsed (now (s .entry)) (from .at .0) (toParam (r .record)) (r .next .at .0) ⌝ }
+pub fn read_param(edition: Edition, s: &[u8], from: Cursor) -> ParamRead
+    requires { ⌜ KnownParam (further edition) (now s) (from .at .0) ⌝ }
+    ensures { λ r. ⌜ Parsed (further edition) (now (s .entry)) (from .at .0) (toParam (r .record)) (r .next .at .0) ⌝ }
 {
     let e = from.past_token(s);
     let name = from.span_to(e);
     let k = e.past_blanks(s);
     if k.sees(s, b'=') {
-        let v = read_value(s, k.past_octet(s).past_blanks(s));
+        let v = read_value(edition, s, k.past_octet(s).past_blanks(s));
         let value = v.span;
         let next = v.next;
         return ParamRead {

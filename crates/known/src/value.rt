@@ -4,6 +4,8 @@ ghost use Rattle.known.specs.Known.{KnownValue};
 use crate::quoted::inside_end;
 use cursor::Cursor;
 use kinds::Span;
+use octets::editions::Edition;
+use scan_parts::value::bare_form;
 
 // A value's span and form, and the cursor behind it.
 pub struct ValueRead {
@@ -12,9 +14,9 @@ pub struct ValueRead {
     pub next: Cursor,
 }
 
-pub fn read_value(s: &[u8], from: Cursor) -> ValueRead
-    requires { ⌜ KnownValue (now s) (from .at .0) ⌝ }
-    ensures { λ r. ⌜ ParsedValue (now (s .entry)) (from .at .0) (r .span .from .0) (r .span .to .0) (r .form) (r .next .at .0) ⌝ }
+pub fn read_value(edition: Edition, s: &[u8], from: Cursor) -> ValueRead
+    requires { ⌜ KnownValue (further edition) (now s) (from .at .0) ⌝ }
+    ensures { λ r. ⌜ ParsedValue (further edition) (now (s .entry)) (from .at .0) (r .span .from .0) (r .span .to .0) (r .form) (r .next .at .0) ⌝ }
 {
     if from.sees(s, b'"') {
         let start = from.past_octet(s);
@@ -25,10 +27,11 @@ pub fn read_value(s: &[u8], from: Cursor) -> ValueRead
             next: q.past_octet(s),
         };
     }
-    let e = from.past_token(s);
+    let k = from.past_token(s);
+    let e = k.past_further(s, edition);
     ValueRead {
         span: from.span_to(e),
-        form: 1,
+        form: bare_form(k, e),
         next: e,
     }
 }

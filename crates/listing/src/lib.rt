@@ -51,12 +51,17 @@ fn put_table(links: &[usize], params: &[usize], counts: Counts)
 }
 
 // Reads the header into the lent tables, lists the answer, and hands it on.
-pub fn list(header: &[u8], links: &mut [usize], params: &mut [usize]) -> ReadAnswer
+pub fn list(
+    edition: usize,
+    header: &[u8],
+    links: &mut [usize],
+    params: &mut [usize],
+) -> ReadAnswer
     ensures { λ r. ⌜
-        Read (now (header .entry)) (now (links .entry)) (now (params .entry))
+        Read edition (now (header .entry)) (now (links .entry)) (now (params .entry))
         (readOut (readNumbers r) (now (links .exit)) (now (params .exit))) ⌝ }
 {
-    let answer = reader::read(header, links, params);
+    let answer = reader::read(edition, header, links, params);
     if let ReadAnswer::Done(counts) = answer {
         put_table(links, params, counts);
         return answer;

@@ -2,6 +2,7 @@
 pub mod Text
 pub mod Sets
 pub mod Member
+pub mod Editions
 pub mod Bits
 pub mod Fold
 pub mod Laws

@@ -51,6 +51,15 @@ unfoldable pub isTarget : ℕ → Bool
 unfolding isLetter isDigit
 isTarget c = isLetter c || isDigit c || oneOf (octets "-._~:/?#[]@!$&'()*+,;=") c
 
+-- an octet of RFC 5988's ptoken that no token has: what the older edition allows beside token octets in a bare value
+unfoldable pub isOlder : ℕ → Bool
+isOlder c = oneOf (octets "()/:<=>?@[]{}") c
+
+-- an octet of a ptoken
+unfoldable pub isPtoken : ℕ → Bool
+unfolding isToken isOlder
+isPtoken c = isToken c || isOlder c
+
 -- a hex digit of either case
 unfoldable pub isHex : ℕ → Bool
 unfolding isDigit

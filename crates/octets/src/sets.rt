@@ -1,7 +1,7 @@
 // A test for each set of octets that the grammar names. The larger sets are held as bits, so that a test has no chain of comparisons
 // and, but for a token's small letters and its usual end, no branch that depends on which octet it is.
 ghost use mathlib.Core.Path.{_≡_};
-ghost use Rattle.octets.specs.Sets.{isBlank, isToken, isPlain, isEscapable, isTarget, isHex};
+ghost use Rattle.octets.specs.Sets.{isBlank, isToken, isPlain, isEscapable, isTarget, isHex, isOlder, isPtoken};
 ghost use Rattle.octets.specs.Member.{isIn};
 use crate::bits::in_bits;
 
@@ -46,6 +46,20 @@ pub fn is_target(c: u8) -> bool
     in_bits(0xafff_ffda_0000_0000, 0x47ff_fffe_afff_ffff, c)
 }
 
+// An octet that only the older edition allows in a value without quotes.
+pub fn is_older(c: u8) -> bool
+    ensures { λ r. ⌜ r ≡ isOlder c ⌝ }
+{
+    in_bits(0xf400_8300_0000_0000, 0x2800_0000_2800_0001, c)
+}
+
+// An octet of a value without quotes in the older edition.
+fn is_ptoken(c: u8) -> bool
+    ensures { λ r. ⌜ r ≡ isPtoken c ⌝ }
+{
+    in_bits(0xf7ff_effa_0000_0000, 0x7fff_ffff_efff_ffff, c)
+}
+
 // The sets that a cursor passes runs of, or looks for.
 pub enum Set {
     Blank,
@@ -53,6 +67,7 @@ pub enum Set {
     Target,
     Plain,
     Escapable,
+    Ptoken,
 }
 
 // Whether the octet is in the set.
@@ -65,6 +80,7 @@ pub fn is_in(set: Set, c: u8) -> bool
         Set::Target => is_target(c),
         Set::Plain => is_plain(c),
         Set::Escapable => is_escapable(c),
+        Set::Ptoken => is_ptoken(c),
     }
 }
 

@@ -9,11 +9,11 @@ use lib.ListN.{length}
 use Rattle.grammar.specs.Link.{Param}
 use Rattle.tables.specs.Table.{Table}
 use Rattle.outcomes.specs.Number.{done, noSuchLink}
-use Rattle.outcomes.specs.Context.{of-text, of-base, ContextOut, anchor, nothing, Context, refused, no-such-link}
+use Rattle.outcomes.specs.Context.{of-text, of-base, ContextOut, anchor, nothing, ContextOf, no-such-link}
 use Rattle.outcomes.specs.Context.{anchored, unanchored}
-use Rattle.outcomes.specs.Laws.{ContextSettled}
+use Rattle.outcomes.specs.Laws.{Settled, ContextSettled}
 use Rattle.outcomes.proofs.Cases.{Branch, this, that, Order, only, branch, order, settled}
-use Rattle.outcomes.proofs.Usable.{Asked, asked}
+use Rattle.outcomes.proofs.Usable.{over-settled}
 
 some-or-none : {A : Type 0} (x : Option A) → ((a : A) × (x ≡ some a)) ⊎ (x ≡ none)
 some-or-none (some a) = inl (a, refl)
@@ -31,23 +31,23 @@ span p = record { number = done; source = of-text; start = p .valueFrom; end = p
 module _ (t : Table) (base : List ℕ) (i : ℕ) where
   abbrev Cases : ContextOut → Type 0
   Cases =
-      Asked t nothing
-      (Order (t .linkCount) i (λ q. q ≡ nothing noSuchLink)
+      Order (t .linkCount) i (λ q. q ≡ nothing noSuchLink)
       (Branch ((p : Param) × (anchor t i ≡ some p)) (λ p q. q ≡ span (p .0))
-      (anchor t i ≡ none) (λ q. q ≡ record { number = done; source = of-base; start = 0; end = length base })))
+      (anchor t i ≡ none) (λ q. q ≡ record { number = done; source = of-base; start = 0; end = length base }))
 
-  cases : (q : ContextOut) → Context t base i q → Cases q
-  cases _ (refused r) = this (_, r) refl
-  cases _ (no-such-link u h) = that u (this h refl)
-  cases _ (anchored u h a) = that u (that h (this (_, a) refl))
-  cases _ (unanchored u h a) = that u (that h (that a refl))
+  cases : (q : ContextOut) → ContextOf t base i q → Cases q
+  cases _ (no-such-link h) = this h refl
+  cases _ (anchored h a) = that h (this (_, a) refl)
+  cases _ (unanchored h a) = that h (that a refl)
+
+  found : Settled (ContextOf t base i)
+  found =
+      settled cases
+      (order (λ h. only (no-such-link h))
+      (λ h. branch (some-or-none (anchor t i)) (λ p n. not-none (p .1) n)
+      (λ p r q e. e ∙ ap span (same-some (r .1) (p .1)))
+      (λ p. only (anchored h (p .1)))
+      (λ n. only (unanchored h n))))
 
 pub context-settled : ContextSettled
-context-settled t base i =
-    settled (cases t base i)
-    (asked t nothing (λ n r. refused r)
-    (λ u. order (λ h. only (no-such-link u h))
-    (λ h. branch (some-or-none (anchor t i)) (λ p n. not-none (p .1) n)
-    (λ p r q e. e ∙ ap span (same-some (r .1) (p .1)))
-    (λ p. only (anchored u h (p .1)))
-    (λ n. only (unanchored u h n)))))
+context-settled n t base i = over-settled (found t base i)

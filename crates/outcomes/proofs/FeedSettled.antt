@@ -6,88 +6,92 @@ use mathlib.Core.Bool.{Bool, true, false, true≢false}
 use mathlib.Core.Logic.{_⊎_, inl, inr}
 use mathlib.Core.List.{List, [], _++_}
 use lib.ListN.{length}
-use Rattle.grammar.specs.Grammar.{rfc8288}
+use Rattle.octets.specs.Editions.{further}
+use Rattle.octets.specs.declared.editions.Edition.{Edition}
 use Rattle.grammar.specs.Place.{Begins}
 use Rattle.grammar.specs.Machine.{gap, run}
-use Rattle.grammar.proofs.Editions.{admissible8288}
+use Rattle.grammar.proofs.Editions.{apart}
 use Rattle.grammar.proofs.Prefix.{isDead, alive-begins, begins-alive, one-place}
 use Rattle.outcomes.specs.Number.{limit, tooLong, malformedHeader, noOutputRoom}
-use Rattle.outcomes.specs.Read.{ReadOut, refused, Read}
+use Rattle.outcomes.specs.Read.{ReadOut, refused, ReadIn}
 use Rattle.outcomes.specs.Feed.{
   FeedOut,
   unstored,
   gathering,
-  Feed,
+  FeedIn,
   small-buffer,
   too-long,
   begins-none,
   begins,
-  Finish,
+  FinishIn,
   no-buffer,
   as-read,
 }
 use Rattle.outcomes.specs.Feeding.{begun}
-use Rattle.outcomes.specs.Laws.{FeedSettled, FinishSettled, StartHolds}
+use Rattle.outcomes.specs.Laws.{Settled, FeedSettled, FinishSettled, StartHolds}
 use Rattle.outcomes.proofs.Cases.{Branch, this, that, Order, only, branch, order, settled}
-use Rattle.outcomes.proofs.ReadSettled.{read-settled}
+use Rattle.outcomes.proofs.InEdition.{edition-settled}
+use Rattle.outcomes.proofs.ReadSettled.{read-in}
 
 -- whether some derivable header begins with u is decided
-pub begins-decided : (u : List ℕ) → Begins rfc8288 u ⊎ (Begins rfc8288 u → ⊥)
-begins-decided u = go (isDead (run rfc8288 (gap []) 0 u)) refl
+pub begins-decided : (e : Edition) (u : List ℕ) → Begins (further e) u ⊎ (Begins (further e) u → ⊥)
+begins-decided e u = go (isDead (run (further e) (gap []) 0 u)) refl
   where
-    go : (x : Bool) → isDead (run rfc8288 (gap []) 0 u) ≡ x → Begins rfc8288 u ⊎ (Begins rfc8288 u → ⊥)
-    go false e = inl (alive-begins rfc8288 admissible8288 u e)
-    go true e = inr (λ b. true≢false (sym e ∙ begins-alive rfc8288 admissible8288 u b))
+    go : (x : Bool) → isDead (run (further e) (gap []) 0 u) ≡ x → Begins (further e) u ⊎ (Begins (further e) u → ⊥)
+    go false q = inl (alive-begins (further e) (apart e) u q)
+    go true q = inr (λ b. true≢false (sym q ∙ begins-alive (further e) (apart e) u b))
 
--- the place of a text
-abbrev place : List ℕ → ℕ
-place u = one-place rfc8288 admissible8288 u .0
+module _ (e : Edition) (fed part buffer : List ℕ) where
+  -- the place of the octets so far
+  abbrev place : ℕ
+  place = one-place (further e) (apart e) (fed ++ part) .0
 
-module _ (fed part buffer : List ℕ) where
   abbrev Cases : FeedOut → Type 0
   Cases =
       Order limit (length buffer)
       (Order (length (fed ++ part)) limit
-      (Branch (Begins rfc8288 (fed ++ part)) (λ b q. q ≡ gathering (fed ++ part) buffer)
-      (Begins rfc8288 (fed ++ part) → ⊥) (λ q. q ≡ unstored buffer malformedHeader (place (fed ++ part))))
+      (Branch (Begins (further e) (fed ++ part)) (λ b q. q ≡ gathering (fed ++ part) buffer)
+      (Begins (further e) (fed ++ part) → ⊥) (λ q. q ≡ unstored buffer malformedHeader place))
       (λ q. q ≡ unstored buffer tooLong 0))
       (λ q. q ≡ unstored buffer noOutputRoom 0)
 
-  cases : (q : FeedOut) → Feed fed part buffer q → Cases q
+  cases : (q : FeedOut) → FeedIn e fed part buffer q → Cases q
   cases _ (small-buffer l) = that l refl
   cases _ (too-long h l) = this h (that l refl)
   cases _ (begins-none {k} h s n p) =
       this h
-      (this s
-      (that n
-      (ap (unstored buffer malformedHeader) (one-place rfc8288 admissible8288 (fed ++ part) .2 k p))))
+      (this s (that n (ap (unstored buffer malformedHeader) (one-place (further e) (apart e) (fed ++ part) .2 k p))))
   cases _ (begins h s b) = this h (this s (this b refl))
 
+  pub feed-in : Settled (FeedIn e fed part buffer)
+  feed-in =
+      settled cases
+      (order
+      (λ h. order
+      (λ s. branch (begins-decided e (fed ++ part)) (λ b n. n b) (λ b c q z. z)
+      (λ b. only (begins h s b))
+      (λ n. only (begins-none h s n (one-place (further e) (apart e) (fed ++ part) .1))))
+      (λ l. only (too-long h l)))
+      (λ l. only (small-buffer l)))
+
 pub feed-settled : FeedSettled
-feed-settled fed part buffer =
-    settled (cases fed part buffer)
-    (order
-    (λ h. order
-    (λ s. branch (begins-decided (fed ++ part)) (λ b n. n b) (λ b c q e. e)
-    (λ b. only (begins h s b))
-    (λ n. only (begins-none h s n (one-place rfc8288 admissible8288 (fed ++ part) .1))))
-    (λ l. only (too-long h l)))
-    (λ l. only (small-buffer l)))
+feed-settled n fed part buffer = edition-settled (λ e. feed-in e fed part buffer)
 
-module _ (fed buffer L P : List ℕ) where
+module _ (e : Edition) (fed buffer L P : List ℕ) where
   abbrev Ends : ReadOut → Type 0
-  Ends = Order limit (length buffer) (Read fed L P) (λ q. q ≡ refused L P noOutputRoom 0)
+  Ends = Order limit (length buffer) (ReadIn e fed L P) (λ q. q ≡ refused L P noOutputRoom 0)
 
-  ends : (q : ReadOut) → Finish fed buffer L P q → Ends q
+  ends : (q : ReadOut) → FinishIn e fed buffer L P q → Ends q
   ends _ (no-buffer l) = that l refl
   ends _ (as-read h r) = this h r
 
+  pub finish-in : Settled (FinishIn e fed buffer L P)
+  finish-in =
+      settled ends
+      (order (λ h. let (o, out, one) = read-in e fed L P in (o, as-read h out, one)) (λ l. only (no-buffer l)))
+
 pub finish-settled : FinishSettled
-finish-settled fed buffer L P =
-    settled (ends fed buffer L P)
-    (order
-    (λ h. let (o, out, one) = read-settled fed L P in (o, as-read h out, one))
-    (λ l. only (no-buffer l)))
+finish-settled n fed buffer L P = edition-settled (λ e. finish-in e fed buffer L P)
 
 pub start-holds : StartHolds
-start-holds buffer = begun (omega arith) (alive-begins rfc8288 admissible8288 [] refl) refl
+start-holds e buffer = begun (omega arith) (alive-begins (further e) (apart e) [] refl) refl

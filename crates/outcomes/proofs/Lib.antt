@@ -1,6 +1,7 @@
 -- Each outcome settles everything: for every entry there is one outcome, and no other.
 pub mod Cases
 pub mod First
+pub mod InEdition
 pub mod Usable
 pub mod ReadSettled
 pub mod SearchSettled

@@ -8,11 +8,11 @@ use lib.ListN.{length}
 use Rattle.tables.specs.Table.{Table}
 use Rattle.outcomes.specs.Number.{limit, tooLong, noRelation, noOutputRoom}
 use Rattle.outcomes.specs.Copy.{CopyOut, untouched, holding}
-use Rattle.outcomes.specs.Write.{writtenForm, relationsAt, Related, Write, refused, no-relation, long-form, no-room, wrote}
-use Rattle.outcomes.specs.Laws.{WriteSettled}
+use Rattle.outcomes.specs.Write.{writtenForm, relationsAt, Related, Wrote, no-relation, long-form, no-room, wrote}
+use Rattle.outcomes.specs.Laws.{Settled, WriteSettled}
 use Rattle.outcomes.proofs.Cases.{Branch, this, that, Order, only, branch, order, settled}
 use Rattle.outcomes.proofs.First.{first-or-none}
-use Rattle.outcomes.proofs.Usable.{Asked, asked}
+use Rattle.outcomes.proofs.Usable.{over-settled}
 
 abbrev isNone : {A : Type 0} → List A → Bool
 isNone [] = true
@@ -28,18 +28,16 @@ module _ (t : Table) (out : List ℕ) where
 
   abbrev Cases : CopyOut → Type 0
   Cases =
-      Asked t (untouched out)
-      (Branch Unrelated (λ n q. q ≡ untouched out noRelation) (Related t)
+      Branch Unrelated (λ n q. q ≡ untouched out noRelation) (Related t)
       (Order (length (writtenForm t)) limit
       (Order (length (writtenForm t)) (length out) (λ q. q ≡ holding out (writtenForm t)) (λ q. q ≡ untouched out noOutputRoom))
-      (λ q. q ≡ untouched out tooLong)))
+      (λ q. q ≡ untouched out tooLong))
 
-  cases : (q : CopyOut) → Write t out q → Cases q
-  cases _ (refused r) = this (_, r) refl
-  cases _ (no-relation u l e) = that u (this (_, l, e) refl)
-  cases _ (long-form u r l) = that u (that r (that l refl))
-  cases _ (no-room u r h l) = that u (that r (this h (that l refl)))
-  cases _ (wrote u r h k) = that u (that r (this h (this k refl)))
+  cases : (q : CopyOut) → Wrote t out q → Cases q
+  cases _ (no-relation l e) = this (_, l, e) refl
+  cases _ (long-form r l) = that r (that l refl)
+  cases _ (no-room r h l) = that r (this h (that l refl))
+  cases _ (wrote r h k) = that r (this h (this k refl))
 
   related-or-not : Unrelated ⊎ Related t
   related-or-not =
@@ -47,10 +45,12 @@ module _ (t : Table) (out : List ℕ) where
       (λ n i l e. true≢false (sym (ap isNone e) ∙ n i l))
       (first-or-none (λ i. isNone (relationsAt t i)) (t .linkCount))
 
+  writes : Settled (Wrote t out)
+  writes =
+      settled cases
+      (branch related-or-not (λ n r. r (n .0) (n .1) (n .2)) (λ n m q e. e)
+      (λ n. only (no-relation (n .1) (n .2)))
+      (λ r. order (λ h. order (λ k. only (wrote r h k)) (λ l. only (no-room r h l))) (λ l. only (long-form r l))))
+
 pub write-settled : WriteSettled
-write-settled t out =
-    settled (cases t out)
-    (asked t (untouched out) (λ n r. refused r)
-    (λ u. branch (related-or-not t out) (λ n r. r (n .0) (n .1) (n .2)) (λ n m q e. e)
-    (λ n. only (no-relation u (n .1) (n .2)))
-    (λ r. order (λ h. order (λ k. only (wrote u r h k)) (λ l. only (no-room u r h l))) (λ l. only (long-form u r l)))))
+write-settled n t out = over-settled (writes t out)

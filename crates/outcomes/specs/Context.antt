@@ -1,4 +1,5 @@
--- A link's context: its `anchor` value span as written, else the whole base. The numbers come in the order 1, 5, 8.
+-- A link's context: its `anchor` value span as written, else the whole base. The numbers come in the order
+-- 10, 1, 5, 8.
 use Prim.Native.Nat.{ℕ, _≤_, _<_}
 use mathlib.Core.Path.{_≡_}
 use mathlib.Core.List.{List}
@@ -10,7 +11,7 @@ use Rattle.grammar.specs.Link.{Param}
 use Rattle.tables.specs.Table.{Table, linkAt}
 use Rattle.tables.specs.Relation.{named}
 use Rattle.outcomes.specs.Number.{done, noSuchLink}
-use Rattle.outcomes.specs.Usable.{Refused, Usable}
+use Rattle.outcomes.specs.Usable.{OverTable}
 
 -- where the part handed back lies
 pub data Source : Type 0 where
@@ -34,12 +35,15 @@ contextOctets text base o = elim (o .source) [ of-text ↦ slice (o .start) (o .
 abbrev pub anchor : Table → ℕ → Option Param
 anchor t i = named (t .text) (octets "anchor") ((linkAt (t .linkSlots) (t .paramSlots) i) .params)
 
--- the table t, the caller's base and link number i
+-- the table t, if it may be used, the caller's base and link number i
 module _ (t : Table) (base : List ℕ) (i : ℕ) where
-  pub data Context : ContextOut → Type 0 where
-    refused : {n : ℕ} → Refused t n → Context (nothing n)
-    no-such-link : Usable t → t .linkCount ≤ i → Context (nothing noSuchLink)
-    anchored : {p : Param} → Usable t → i < t .linkCount → anchor t i ≡ some p
-        → Context (record { number = done; source = of-text; start = p .valueFrom; end = p .valueTo })
-    unanchored : Usable t → i < t .linkCount → anchor t i ≡ none
-        → Context (record { number = done; source = of-base; start = 0; end = length base })
+  pub data ContextOf : ContextOut → Type 0 where
+    no-such-link : t .linkCount ≤ i → ContextOf (nothing noSuchLink)
+    anchored : {p : Param} → i < t .linkCount → anchor t i ≡ some p
+        → ContextOf (record { number = done; source = of-text; start = p .valueFrom; end = p .valueTo })
+    unanchored : i < t .linkCount → anchor t i ≡ none
+        → ContextOf (record { number = done; source = of-base; start = 0; end = length base })
+
+-- asked with the number n of an edition
+abbrev pub Context : ℕ → Table → List ℕ → ℕ → ContextOut → Type 0
+Context n t base i = OverTable n t nothing (ContextOf t base i)

@@ -1,11 +1,11 @@
--- Value copy: the meaning of one parameter's value. The numbers come in the order 1, 5, 8, 9, 7.
+-- Value copy: the meaning of one parameter's value. The numbers come in the order 10, 1, 5, 8, 9, 7.
 use Prim.Native.Nat.{ℕ, _+_, _≤_, _<_}
 use mathlib.Core.List.{List, _++_}
 use lib.ListN.{length, drop}
 use Rattle.tables.specs.Table.{Table, paramAt, firstOf, countOf}
 use Rattle.tables.specs.Meaning.{valueOf}
 use Rattle.outcomes.specs.Number.{done, noOutputRoom, noSuchLink, notFound}
-use Rattle.outcomes.specs.Usable.{Refused, Usable}
+use Rattle.outcomes.specs.Usable.{OverTable}
 
 -- the number and the count of octets answered, and what the output buffer holds afterwards
 pub record CopyOut : Type 0 where
@@ -25,13 +25,16 @@ holding out v = record { number = done; count = length v; buffer = v ++ drop (le
 abbrev pub meant : Table → ℕ → ℕ → List ℕ
 meant t i j = valueOf (t .text) (paramAt (t .paramSlots) (firstOf (t .linkSlots) i + j))
 
--- the table t, link number i, index j within that link, and a buffer that holds `out`
+-- the table t, if it may be used, link number i, index j within that link, and a buffer that holds `out`
 module _ (t : Table) (i j : ℕ) (out : List ℕ) where
-  pub data Copy : CopyOut → Type 0 where
-    refused : {n : ℕ} → Refused t n → Copy (untouched out n)
-    no-such-link : Usable t → t .linkCount ≤ i → Copy (untouched out noSuchLink)
-    no-such-param : Usable t → i < t .linkCount → countOf (t .linkSlots) i ≤ j → Copy (untouched out notFound)
-    no-room : Usable t → i < t .linkCount → j < countOf (t .linkSlots) i → length out < length (meant t i j)
-        → Copy (untouched out noOutputRoom)
-    copied : Usable t → i < t .linkCount → j < countOf (t .linkSlots) i → length (meant t i j) ≤ length out
-        → Copy (holding out (meant t i j))
+  pub data Copied : CopyOut → Type 0 where
+    no-such-link : t .linkCount ≤ i → Copied (untouched out noSuchLink)
+    no-such-param : i < t .linkCount → countOf (t .linkSlots) i ≤ j → Copied (untouched out notFound)
+    no-room : i < t .linkCount → j < countOf (t .linkSlots) i → length out < length (meant t i j)
+        → Copied (untouched out noOutputRoom)
+    copied : i < t .linkCount → j < countOf (t .linkSlots) i → length (meant t i j) ≤ length out
+        → Copied (holding out (meant t i j))
+
+-- asked with the number n of an edition
+abbrev pub Copy : ℕ → Table → ℕ → ℕ → List ℕ → CopyOut → Type 0
+Copy n t i j out = OverTable n t (untouched out) (Copied t i j out)

@@ -3,50 +3,64 @@ use Prim.Native.Nat.{ℕ, suc, _+_, _≤_, _<_}
 use mathlib.Core.Path.{_≡_}
 use mathlib.Core.List.{List, [], _++_}
 use lib.ListN.{length, take, drop}
-use Rattle.grammar.specs.Grammar.{rfc8288}
+use Rattle.octets.specs.Editions.{numberOf, further}
+use Rattle.octets.specs.declared.editions.Edition.{Edition}
 use Rattle.grammar.specs.Place.{Begins, Place}
 use Rattle.grammar.specs.Machine.{gap, run, phaseOf}
 use Rattle.outcomes.specs.Number.{limit, done, tooLong, malformedHeader, noOutputRoom}
-use Rattle.outcomes.specs.Read.{ReadOut, refused, Read}
-use Rattle.outcomes.specs.Feed.{counted, FeedOut, unstored, Feed, Finish}
+use Rattle.outcomes.specs.InEdition.{InEdition}
+use Rattle.outcomes.specs.Read.{ReadOut, refused, ReadIn}
+use Rattle.outcomes.specs.Feed.{counted, FeedOut, unstored, FeedIn, FinishIn}
 
--- the phase of reading behind the octets gathered, how many octets counted, and their place
+-- the number of the edition asked for, the phase of reading behind the octets gathered, how many octets counted, and their place
 pub record Feeding : Type 0 where
+  pub edition : ℕ
   pub phase : ℕ
   pub total : ℕ
   pub place : ℕ
 
--- A state and a buffer as they are handed out when the octets `fed` have counted: one case for each number that a feed answers of
--- them. A case says nothing of the numbers that it takes in braces, and only the last one speaks of the buffer.
-pub data Holds (fed buffer : List ℕ) : Feeding → Type 0 where
+-- A state of the edition e and a buffer as they are handed out when the octets `fed` have counted: one case for each number that a feed
+-- answers of them. A case says nothing of the numbers that it takes in braces, and only the last one speaks of the buffer.
+pub data Holds (e : Edition) (fed buffer : List ℕ) : Feeding → Type 0 where
   -- behind the limit the octets are counted no further
-  over : {p k : ℕ} → limit < length fed → Holds fed buffer (record { phase = p; total = suc limit; place = k })
+  over : {p k : ℕ} → limit < length fed
+      → Holds e fed buffer (record { edition = numberOf e; phase = p; total = suc limit; place = k })
   -- octets that begin no derivable header have a place before their end
-  stuck : {p k : ℕ} → length fed ≤ limit → (Begins rfc8288 fed → ⊥) → Place rfc8288 fed k
-      → Holds fed buffer (record { phase = p; total = length fed; place = k })
+  stuck : {p k : ℕ} → length fed ≤ limit → (Begins (further e) fed → ⊥) → Place (further e) fed k
+      → Holds e fed buffer (record { edition = numberOf e; phase = p; total = length fed; place = k })
   -- those that begin one have their own length as place, and stand at the buffer's start
-  begun : length fed ≤ limit → Begins rfc8288 fed → take (length fed) buffer ≡ fed
-      → Holds fed buffer (record { phase = phaseOf (run rfc8288 (gap []) 0 fed); total = length fed; place = length fed })
+  begun : length fed ≤ limit → Begins (further e) fed → take (length fed) buffer ≡ fed
+      → Holds e fed buffer
+      (record {
+        edition = numberOf e;
+        phase = phaseOf (run (further e) (gap []) 0 fed);
+        total = length fed;
+        place = length fed;
+      })
 
--- the state that a feeding starts with; that it is right for no octets is a law (`Laws.StartHolds`)
-abbrev pub start : Feeding
-start = record { phase = phaseOf (gap []); total = 0; place = 0 }
+-- the state that a feeding starts with, asked with the number n; that it is right for no octets where n is an edition's is a law
+-- (`Laws.StartHolds`)
+abbrev pub start : ℕ → Feeding
+start n = record { edition = n; phase = phaseOf (gap []); total = 0; place = 0 }
 
 -- a feed on the state st, of one part, with a buffer
 module _ (st : Feeding) (part buffer : List ℕ) where
-  -- What it answers and leaves whatever the state and the buffer are. Where no fault is remembered and the total stays within the
-  -- limit, it is free whether the part is faulty or stored, and so is what these cases take in braces: the place of the fault in the
-  -- part, and the next phase. Nothing else is free.
+  -- the state with this phase, total and place: its edition stays
+  abbrev pub movedTo : ℕ → ℕ → ℕ → Feeding
+  movedTo p n k = record { edition = st .edition; phase = p; total = n; place = k }
+
+  -- What it answers and leaves, in an edition that there is, whatever the state and the buffer are otherwise. Where no fault is
+  -- remembered and the total stays within the limit, it is free whether the part is faulty or stored, and so is what these cases take
+  -- in braces: the place of the fault in the part, and the next phase. Nothing else is free.
   pub data AnyFeed : FeedOut → Feeding → Type 0 where
     small-buffer : length buffer < limit → AnyFeed (unstored buffer noOutputRoom 0) st
     too-long : limit ≤ length buffer → limit < st .total + length part
-        → AnyFeed (unstored buffer tooLong 0) (record { phase = st .phase; total = suc limit; place = st .place })
+        → AnyFeed (unstored buffer tooLong 0) (movedTo (st .phase) (suc limit) (st .place))
     remembered : limit ≤ length buffer → st .total + length part ≤ limit → st .place < st .total
-        → AnyFeed (unstored buffer malformedHeader (st .place))
-        (record { phase = st .phase; total = st .total + length part; place = st .place })
+        → AnyFeed (unstored buffer malformedHeader (st .place)) (movedTo (st .phase) (st .total + length part) (st .place))
     faulty : {k : ℕ} → limit ≤ length buffer → st .total + length part ≤ limit → st .total ≤ st .place → k < length part
         → AnyFeed (unstored buffer malformedHeader (st .total + k))
-        (record { phase = st .phase; total = st .total + length part; place = st .total + k })
+        (movedTo (st .phase) (st .total + length part) (st .total + k))
     stored : {p : ℕ} → limit ≤ length buffer → st .total + length part ≤ limit → st .total ≤ st .place
         → AnyFeed
         (record {
@@ -54,27 +68,36 @@ module _ (st : Feeding) (part buffer : List ℕ) where
           place = 0;
           buffer = take (st .total) buffer ++ part ++ drop (st .total + length part) buffer;
         })
-        (record { phase = p; total = st .total + length part; place = st .total + length part })
+        (movedTo p (st .total + length part) (st .total + length part))
 
-  -- What a feed promises: of a state and a buffer as they were handed out, the outcome on all octets, and again such a state and
-  -- buffer; of all others what holds of any.
-  pub record Feeds (o : FeedOut) (next : Feeding) : Type 0 where
-    pub answers : (fed : List ℕ) → Holds fed buffer st → Feed fed part buffer o
-    pub holds : (fed : List ℕ) → Holds fed buffer st → Holds (counted fed part buffer) (o .buffer) next
+  -- What a feed promises in the edition e: of a state and a buffer as they were handed out, the outcome on all octets, and again such a
+  -- state and buffer; of all others what holds of any.
+  pub record FeedsIn (e : Edition) (o : FeedOut) (next : Feeding) : Type 0 where
+    pub answers : (fed : List ℕ) → Holds e fed buffer st → FeedIn e fed part buffer o
+    pub holds : (fed : List ℕ) → Holds e fed buffer st → Holds e (counted fed part buffer) (o .buffer) next
     pub any : AnyFeed o next
+
+  -- in the edition that the state names; where there is none, the state stays too
+  abbrev pub Feeds : FeedOut → Feeding → Type 0
+  Feeds o next =
+      InEdition {A = FeedOut × Feeding} (st .edition) (λ k. (unstored buffer k 0, st)) (λ e w. FeedsIn e (w .0) (w .1))
+      (o, next)
 
 -- the finish on the state st, with a buffer and tables that hold L and P
 module _ (st : Feeding) (buffer L P : List ℕ) where
-  -- What it answers and leaves whatever the state and the buffer are. Nothing is free.
-  pub data AnyFinish : ReadOut → Type 0 where
-    no-buffer : length buffer < limit → AnyFinish (refused L P noOutputRoom 0)
-    too-long : limit ≤ length buffer → limit < st .total → AnyFinish (refused L P tooLong 0)
+  -- What it answers and leaves in the edition e, whatever the state and the buffer are otherwise. Nothing is free.
+  pub data AnyFinish (e : Edition) : ReadOut → Type 0 where
+    no-buffer : length buffer < limit → AnyFinish e (refused L P noOutputRoom 0)
+    too-long : limit ≤ length buffer → limit < st .total → AnyFinish e (refused L P tooLong 0)
     remembered : limit ≤ length buffer → st .total ≤ limit → st .place < st .total
-        → AnyFinish (refused L P malformedHeader (st .place))
+        → AnyFinish e (refused L P malformedHeader (st .place))
     reads : {o : ReadOut} → limit ≤ length buffer → st .total ≤ limit → st .total ≤ st .place
-        → Read (take (st .total) buffer) L P o → AnyFinish o
+        → ReadIn e (take (st .total) buffer) L P o → AnyFinish e o
 
   -- what the finish promises, in the same way
-  pub record Finishes (o : ReadOut) : Type 0 where
-    pub answers : (fed : List ℕ) → Holds fed buffer st → Finish fed buffer L P o
-    pub any : AnyFinish o
+  pub record FinishesIn (e : Edition) (o : ReadOut) : Type 0 where
+    pub answers : (fed : List ℕ) → Holds e fed buffer st → FinishIn e fed buffer L P o
+    pub any : AnyFinish e o
+
+  abbrev pub Finishes : ReadOut → Type 0
+  Finishes = InEdition (st .edition) (λ k. refused L P k 0) FinishesIn

@@ -3,16 +3,18 @@ use Prim.Native.Nat.{ℕ, _*_}
 use mathlib.Core.Path.{_≡_}
 use mathlib.Core.List.{List, []}
 use lib.ListN.{drop}
+use Rattle.octets.specs.Editions.{numberOf, NoEdition}
+use Rattle.octets.specs.declared.editions.Edition.{Edition}
 use Rattle.grammar.specs.Records.{linkWidth, paramWidth}
 use Rattle.tables.specs.Table.{Table}
-use Rattle.outcomes.specs.Number.{done, malformedHeader}
-use Rattle.outcomes.specs.Read.{ReadOut, Read}
+use Rattle.outcomes.specs.Number.{done, malformedHeader, unknownEdition}
+use Rattle.outcomes.specs.Read.{ReadOut, refused, Read}
 use Rattle.outcomes.specs.Search.{SearchOut, Search}
 use Rattle.outcomes.specs.Context.{ContextOut, nothing, Context}
-use Rattle.outcomes.specs.Copy.{CopyOut, Copy}
+use Rattle.outcomes.specs.Copy.{CopyOut, untouched, Copy}
 use Rattle.outcomes.specs.Write.{Write}
-use Rattle.outcomes.specs.Feed.{FeedOut, Feed, Finish}
-use Rattle.outcomes.specs.Feeding.{start, Holds}
+use Rattle.outcomes.specs.Feed.{FeedOut, unstored, Feed, Finish}
+use Rattle.outcomes.specs.Feeding.{Feeding, start, Holds, Feeds, Finishes}
 
 -- there is an outcome, and no other
 abbrev pub Settled : {A : Type 0} → (A → Type 0) → Type 0
@@ -37,36 +39,53 @@ pub record FeedKeeps (buffer : List ℕ) (o : FeedOut) : Type 0 where
   pub place : (o .number ≡ malformedHeader → ⊥) → o .place ≡ 0
 
 pub record Refusals : Type 0 where
-  pub read : (h L P : List ℕ) (o : ReadOut) → Read h L P o → ReadKeeps L P o
-  pub search : (t : Table) (q : List ℕ) (o : SearchOut) → Search t q o → (o .number ≡ done → ⊥) → o .link ≡ 0
-  pub context : (t : Table) (base : List ℕ) (i : ℕ) (o : ContextOut) → Context t base i o → (o .number ≡ done → ⊥)
-      → o ≡ nothing (o .number)
-  pub copy : (t : Table) (i j : ℕ) (out : List ℕ) (o : CopyOut) → Copy t i j out o → CopyKeeps out o
-  pub write : (t : Table) (out : List ℕ) (o : CopyOut) → Write t out o → CopyKeeps out o
-  pub feed : (fed part buffer : List ℕ) (o : FeedOut) → Feed fed part buffer o → FeedKeeps buffer o
-  pub finish : (fed buffer L P : List ℕ) (o : ReadOut) → Finish fed buffer L P o → ReadKeeps L P o
+  pub read : (n : ℕ) (h L P : List ℕ) (o : ReadOut) → Read n h L P o → ReadKeeps L P o
+  pub search : (n : ℕ) (t : Table) (q : List ℕ) (o : SearchOut) → Search n t q o → (o .number ≡ done → ⊥) → o .link ≡ 0
+  pub context : (n : ℕ) (t : Table) (base : List ℕ) (i : ℕ) (o : ContextOut) → Context n t base i o
+      → (o .number ≡ done → ⊥) → o ≡ nothing (o .number)
+  pub copy : (n : ℕ) (t : Table) (i j : ℕ) (out : List ℕ) (o : CopyOut) → Copy n t i j out o → CopyKeeps out o
+  pub write : (n : ℕ) (t : Table) (out : List ℕ) (o : CopyOut) → Write n t out o → CopyKeeps out o
+  pub feed : (n : ℕ) (fed part buffer : List ℕ) (o : FeedOut) → Feed n fed part buffer o → FeedKeeps buffer o
+  pub finish : (n : ℕ) (fed buffer L P : List ℕ) (o : ReadOut) → Finish n fed buffer L P o → ReadKeeps L P o
+
+-- A number that is no edition's is refused with 10, whatever else is asked: every entry answers and leaves what its refusals do, and
+-- feeds and the finish on a state so started hand the state back as it was.
+pub record UnknownRefused : Type 0 where
+  pub read : (n : ℕ) → NoEdition n → (h L P : List ℕ) (o : ReadOut) → Read n h L P o → o ≡ refused L P unknownEdition 0
+  pub search : (n : ℕ) → NoEdition n → (t : Table) (q : List ℕ) (o : SearchOut) → Search n t q o
+      → o ≡ record { number = unknownEdition; link = 0 }
+  pub context : (n : ℕ) → NoEdition n → (t : Table) (base : List ℕ) (i : ℕ) (o : ContextOut) → Context n t base i o
+      → o ≡ nothing unknownEdition
+  pub copy : (n : ℕ) → NoEdition n → (t : Table) (i j : ℕ) (out : List ℕ) (o : CopyOut) → Copy n t i j out o
+      → o ≡ untouched out unknownEdition
+  pub write : (n : ℕ) → NoEdition n → (t : Table) (out : List ℕ) (o : CopyOut) → Write n t out o
+      → o ≡ untouched out unknownEdition
+  pub feed : (st next : Feeding) → NoEdition (st .edition) → (part buffer : List ℕ) (o : FeedOut)
+      → Feeds st part buffer o next → (o ≡ unstored buffer unknownEdition 0) × (next ≡ st)
+  pub finish : (st : Feeding) → NoEdition (st .edition) → (buffer L P : List ℕ) (o : ReadOut)
+      → Finishes st buffer L P o → o ≡ refused L P unknownEdition 0
 
 abbrev pub ReadSettled : Type 0
-ReadSettled = (h L P : List ℕ) → Settled (Read h L P)
+ReadSettled = (n : ℕ) (h L P : List ℕ) → Settled (Read n h L P)
 
 abbrev pub SearchSettled : Type 0
-SearchSettled = (t : Table) (q : List ℕ) → Settled (Search t q)
+SearchSettled = (n : ℕ) (t : Table) (q : List ℕ) → Settled (Search n t q)
 
 abbrev pub ContextSettled : Type 0
-ContextSettled = (t : Table) (base : List ℕ) (i : ℕ) → Settled (Context t base i)
+ContextSettled = (n : ℕ) (t : Table) (base : List ℕ) (i : ℕ) → Settled (Context n t base i)
 
 abbrev pub CopySettled : Type 0
-CopySettled = (t : Table) (i j : ℕ) (out : List ℕ) → Settled (Copy t i j out)
+CopySettled = (n : ℕ) (t : Table) (i j : ℕ) (out : List ℕ) → Settled (Copy n t i j out)
 
 abbrev pub WriteSettled : Type 0
-WriteSettled = (t : Table) (out : List ℕ) → Settled (Write t out)
+WriteSettled = (n : ℕ) (t : Table) (out : List ℕ) → Settled (Write n t out)
 
 abbrev pub FeedSettled : Type 0
-FeedSettled = (fed part buffer : List ℕ) → Settled (Feed fed part buffer)
+FeedSettled = (n : ℕ) (fed part buffer : List ℕ) → Settled (Feed n fed part buffer)
 
 abbrev pub FinishSettled : Type 0
-FinishSettled = (fed buffer L P : List ℕ) → Settled (Finish fed buffer L P)
+FinishSettled = (n : ℕ) (fed buffer L P : List ℕ) → Settled (Finish n fed buffer L P)
 
--- the state of a start is right for no octets, with any buffer
+-- the state of a start in an edition is right for no octets, with any buffer
 abbrev pub StartHolds : Type 0
-StartHolds = (buffer : List ℕ) → Holds [] buffer start
+StartHolds = (e : Edition) (buffer : List ℕ) → Holds e [] buffer (start (numberOf e))

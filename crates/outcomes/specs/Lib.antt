@@ -1,5 +1,6 @@
 -- What each entry answers, for every input: its numbers, and what every lent slot and octet holds afterwards.
 pub mod Number
+pub mod InEdition
 pub mod Usable
 pub mod Read
 pub mod Search

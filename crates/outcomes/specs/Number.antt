@@ -41,6 +41,10 @@ noSuchLink = 8
 abbrev pub notFound : ℕ
 notFound = 9
 
+-- no edition has the number asked for
+abbrev pub unknownEdition : ℕ
+unknownEdition = 10
+
 -- the most octets of a header, a text or a written form, and the least of a gathering buffer
 abbrev pub limit : ℕ
 limit = 8192

@@ -1,13 +1,15 @@
--- Reading a header into lent tables. The numbers come in the order 1, 2, 3, 4.
+-- Reading a header into lent tables. The numbers come in the order 10, 1, 2, 3, 4.
 use Prim.Native.Nat.{ℕ, _*_, _≤_, _<_}
 use mathlib.Core.List.{List, _++_}
 use lib.ListN.{length, drop}
+use Rattle.octets.specs.Editions.{further}
+use Rattle.octets.specs.declared.editions.Edition.{Edition}
 use Rattle.grammar.specs.Link.{Link}
-use Rattle.grammar.specs.Grammar.{rfc8288}
 use Rattle.grammar.specs.Kept.{Reading}
 use Rattle.grammar.specs.Records.{linkWidth, paramWidth, linkRoom, paramRoom, countParams, linkRecords, paramRecords}
 use Rattle.grammar.specs.Place.{MalformedAt}
 use Rattle.outcomes.specs.Number.{limit, done, tooLong, malformedHeader, noLinkRoom, noParamRoom}
+use Rattle.outcomes.specs.InEdition.{InEdition}
 
 -- the four numbers answered, and what both tables hold afterwards
 pub record ReadOut : Type 0 where
@@ -34,14 +36,18 @@ filled L P K =
       paramSlots = paramRecords K ++ drop (paramWidth * countParams K) P;
     }
 
--- the header h, with tables that hold L and P
-module _ (h L P : List ℕ) where
-  pub data Read : ReadOut → Type 0 where
-    too-long : limit < length h → Read (refused L P tooLong 0)
-    not-derived : {k : ℕ} → length h ≤ limit → MalformedAt rfc8288 h k → Read (refused L P malformedHeader k)
-    no-link-room : {K : List Link} → length h ≤ limit → Reading rfc8288 h K → linkRoom L < length K
-        → Read (refused L P noLinkRoom 0)
-    no-param-room : {K : List Link} → length h ≤ limit → Reading rfc8288 h K → length K ≤ linkRoom L
-        → paramRoom P < countParams K → Read (refused L P noParamRoom 0)
-    reads : {K : List Link} → length h ≤ limit → Reading rfc8288 h K → length K ≤ linkRoom L → countParams K ≤ paramRoom P
-        → Read (filled L P K)
+-- the header h, with tables that hold L and P, in the edition e
+module _ (e : Edition) (h L P : List ℕ) where
+  pub data ReadIn : ReadOut → Type 0 where
+    too-long : limit < length h → ReadIn (refused L P tooLong 0)
+    not-derived : {k : ℕ} → length h ≤ limit → MalformedAt (further e) h k → ReadIn (refused L P malformedHeader k)
+    no-link-room : {K : List Link} → length h ≤ limit → Reading (further e) h K → linkRoom L < length K
+        → ReadIn (refused L P noLinkRoom 0)
+    no-param-room : {K : List Link} → length h ≤ limit → Reading (further e) h K → length K ≤ linkRoom L
+        → paramRoom P < countParams K → ReadIn (refused L P noParamRoom 0)
+    reads : {K : List Link} → length h ≤ limit → Reading (further e) h K → length K ≤ linkRoom L → countParams K ≤ paramRoom P
+        → ReadIn (filled L P K)
+
+-- asked with the number n of an edition
+abbrev pub Read : ℕ → List ℕ → List ℕ → List ℕ → ReadOut → Type 0
+Read n h L P = InEdition n (λ k. refused L P k 0) (λ e. ReadIn e h L P)

@@ -1,10 +1,15 @@
 // The laws of the outcomes, held by the gate: each function promises one statement of specs/Laws.antt and does nothing.
 ghost use Rattle.outcomes.specs.Laws.{Refusals, ReadSettled, SearchSettled, ContextSettled, CopySettled, WriteSettled};
-ghost use Rattle.outcomes.specs.Laws.{FeedSettled, FinishSettled, StartHolds};
+ghost use Rattle.outcomes.specs.Laws.{UnknownRefused, FeedSettled, FinishSettled, StartHolds};
 
 // A refusal answers zeros and changes nothing lent, and success keeps what stands behind.
 pub fn refusals()
     ensures { λ _. ⌜ Refusals ⌝ }
+{}
+
+// A number that is no edition's is refused with 10, before all else.
+pub fn unknown_refused()
+    ensures { λ _. ⌜ UnknownRefused ⌝ }
 {}
 
 // Reading a header has one outcome.
@@ -42,7 +47,7 @@ pub fn finish_settled()
     ensures { λ _. ⌜ FinishSettled ⌝ }
 {}
 
-// The state of a start is right for no octets.
+// The state of a start in an edition is right for no octets.
 pub fn start_holds()
     ensures { λ _. ⌜ StartHolds ⌝ }
 {}

@@ -9,17 +9,19 @@ ghost use Rattle.part_check.specs.Decides.{Decides};
 ghost use Rattle.param_check.specs.Params.{GoodParams};
 use kinds::ParamNumber;
 use names::Seen;
+use octets::editions::Edition;
 use part_check::PartKind;
 use part_check::is_part;
 use part_check::is_span;
 use part_check::is_token_part;
+use part_check::is_wider_part;
 use records::ParamRecord;
 use records::param_at;
 
-// Whether the form is 0, 1 or 2, and the value is as its form says.
-fn is_good_value(s: &[u8], p: ParamRecord) -> bool
+// Whether the form is 0, 1, 2 or, where the edition has further octets, 3, and the value is as its form says.
+fn is_good_value(edition: Edition, s: &[u8], p: ParamRecord) -> bool
     requires { ⌜ InText (now s) (p .value .from .0) (p .value .to .0) ⌝ }
-    ensures { λ r. ⌜ Decides r (GoodValue (now (s .entry)) (toParam p)) ⌝ }
+    ensures { λ r. ⌜ Decides r (GoodValue (further edition) (now (s .entry)) (toParam p)) ⌝ }
 {
     let form = p.form;
     let value = p.value;
@@ -27,32 +29,39 @@ fn is_good_value(s: &[u8], p: ParamRecord) -> bool
         0 => (value.from.0 == p.name.to.0) & (value.to.0 == p.name.to.0),
         1 => is_token_part(s, value),
         2 => is_part(s, value, PartKind::Inside),
+        3 => is_wider_part(edition, s, value),
         _ => false,
     }
 }
 
 // Whether the spans lie in the text, and the name and the value obey the grammar.
-fn is_good_param(s: &[u8], p: ParamRecord) -> bool
-    ensures { λ r. ⌜ Decides r (GoodParam (now (s .entry)) (toParam p)) ⌝ }
+fn is_good_param(edition: Edition, s: &[u8], p: ParamRecord) -> bool
+    ensures { λ r. ⌜ Decides r (GoodParam (further edition) (now (s .entry)) (toParam p)) ⌝ }
 {
     let name = p.name;
     let value = p.value;
     if is_span(s, name) && is_span(s, value) && is_token_part(s, name) {
-        return is_good_value(s, p);
+        return is_good_value(edition, s, p);
     }
     false
 }
 
 // Whether `count` parameters from `first` on are good, and no two of them share a name kept once.
-pub fn are_good_params(s: &[u8], slots: &[usize], first: ParamNumber, count: usize) -> bool
+pub fn are_good_params(
+    edition: Edition,
+    s: &[u8],
+    slots: &[usize],
+    first: ParamNumber,
+    count: usize,
+) -> bool
     requires { ⌜ first .0 + count ≤ paramRoom (now slots) ⌝ }
-    ensures { λ r. ⌜ Decides r (GoodParams (now (s .entry)) [] (paramsFrom (now (slots .entry)) (first .0) count)) ⌝ }
+    ensures { λ r. ⌜ Decides r (GoodParams (further edition) (now (s .entry)) [] (paramsFrom (now (slots .entry)) (first .0) count)) ⌝ }
 {
     let mut seen = Seen::none();
     let mut k = 0;
     while k < count {
         let p = param_at(slots, first.plus(k));
-        if !is_good_param(s, p) {
+        if !is_good_param(edition, s, p) {
             return false;
         }
         let name = p.name;

@@ -8,6 +8,7 @@ ghost use Rattle.part_check.specs.Units.{IsPart, PastUnit};
 use cursor::Cursor;
 use kinds::Place;
 use kinds::Span;
+use octets::editions::Edition;
 use octets::sets::is_escapable;
 use octets::sets::is_hex;
 use octets::sets::is_plain;
@@ -29,6 +30,18 @@ pub fn is_token_part(s: &[u8], part: Span) -> bool
     let e = part.to.0;
     let c = Cursor { at: from }.past_token(&s[..e]);
     (from.0 < e) & (c.at.0 == e)
+}
+
+// Whether the part is what the edition allows without quotes though it is no token.
+pub fn is_wider_part(edition: Edition, s: &[u8], part: Span) -> bool
+    requires { ⌜ InText (now s) (part .from .0) (part .to .0) ⌝ }
+    ensures { λ r. ⌜ Decides r (Wider (further edition) (now (s .entry)) (part .from .0) (part .to .0)) ⌝ }
+{
+    let from = part.from;
+    let e = part.to.0;
+    let k = Cursor { at: from }.past_token(&s[..e]);
+    let c = k.past_further(&s[..e], edition);
+    (k.at.0 < e) & (c.at.0 == e)
 }
 
 // The parts that are made of units: the inside of a quoted string of plain octets and backslash pairs, a target of target octets and

@@ -4,6 +4,7 @@ ghost use lib.ListN.{length};
 ghost use Rattle.part_scan.specs.Moved.{Stays, Moved};
 use cursor::Cursor;
 use kinds::Place;
+use octets::editions::Edition;
 use octets::sets::Set;
 
 // The text ends in the same phase, the place of an octet that leads nowhere, or the phase and the cursor behind an octet.
@@ -30,16 +31,16 @@ fn past_quoted(s: &[u8], from: Cursor) -> Cursor
 }
 
 // Past the octet that stands here.
-fn behind(s: &[u8], phase: usize, c: Cursor) -> Move
+fn behind(edition: Edition, s: &[u8], phase: usize, c: Cursor) -> Move
     requires { ⌜ c .at .0 ≤ length (now s) ⌝ }
-    ensures { λ r. ⌜ Moved (now (s .entry)) phase (c .at .0) r ⌝ }
+    ensures { λ r. ⌜ Moved (further edition) (now (s .entry)) phase (c .at .0) r ⌝ }
 {
     let at = c.at;
     let i = at.0;
     if i >= s.len() {
         return Move::End;
     }
-    let next = phases::on(phase, s[i]);
+    let next = phases::on(edition, phase, s[i]);
     if next == phases::STUCK {
         return Move::Halt(at);
     }
@@ -47,20 +48,20 @@ fn behind(s: &[u8], phase: usize, c: Cursor) -> Move
 }
 
 // Each phase by itself, so that what follows a run is compiled for the phase that it is in.
-pub fn go_on(s: &[u8], phase: usize, c: Cursor) -> Move
+pub fn go_on(edition: Edition, s: &[u8], phase: usize, c: Cursor) -> Move
     requires { ⌜ c .at .0 ≤ length (now s) ⌝ }
-    ensures { λ r. ⌜ Moved (now (s .entry)) phase (c .at .0) r ⌝ }
+    ensures { λ r. ⌜ Moved (further edition) (now (s .entry)) phase (c .at .0) r ⌝ }
 {
     match phase {
-        phases::GAP => behind(s, phase, c.past_blanks(s)),
-        phases::TARGET => behind(s, phase, c.past_target(s)),
-        phases::AFTER => behind(s, phase, c.past_blanks(s)),
-        phases::SEMI => behind(s, phase, c.past_blanks(s)),
-        phases::NAME => behind(s, phase, c.past_token(s)),
-        phases::NAMED => behind(s, phase, c.past_blanks(s)),
-        phases::EQUALS => behind(s, phase, c.past_blanks(s)),
-        phases::BARE => behind(s, phase, c.past_token(s)),
-        phases::QUOTE => behind(s, phase, past_quoted(s, c)),
-        _ => behind(s, phase, c),
+        phases::GAP => behind(edition, s, phase, c.past_blanks(s)),
+        phases::TARGET => behind(edition, s, phase, c.past_target(s)),
+        phases::AFTER => behind(edition, s, phase, c.past_blanks(s)),
+        phases::SEMI => behind(edition, s, phase, c.past_blanks(s)),
+        phases::NAME => behind(edition, s, phase, c.past_token(s)),
+        phases::NAMED => behind(edition, s, phase, c.past_blanks(s)),
+        phases::EQUALS => behind(edition, s, phase, c.past_blanks(s)),
+        phases::BARE => behind(edition, s, phase, c.past_token(s)),
+        phases::QUOTE => behind(edition, s, phase, past_quoted(s, c)),
+        _ => behind(edition, s, phase, c),
     }
 }

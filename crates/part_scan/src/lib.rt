@@ -4,6 +4,7 @@ use crate::go_on::Move;
 use crate::go_on::go_on;
 use cursor::Cursor;
 use kinds::Place;
+use octets::editions::Edition;
 
 mod go_on;
 
@@ -13,13 +14,13 @@ pub enum PartScan {
     Stuck(Place),
 }
 
-pub fn scan_part(part: &[u8], from: usize) -> PartScan
-    ensures { λ r. ⌜ PartScanned (now (part .entry)) from r ⌝ }
+pub fn scan_part(edition: Edition, part: &[u8], from: usize) -> PartScan
+    ensures { λ r. ⌜ PartScanned (further edition) (now (part .entry)) from r ⌝ }
 {
     let mut phase = from;
     let mut c = Cursor::start();
     loop {
-        match go_on(part, phase, c) {
+        match go_on(edition, part, phase, c) {
             Move::End => {
                 return PartScan::Through(phase);
             }

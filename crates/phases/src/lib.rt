@@ -4,6 +4,8 @@ ghost use mathlib.Core.Path.{_≡_};
 ghost use mathlib.Core.Bool.{cond};
 ghost use Rattle.octets.specs.Member.{isIn};
 ghost use Rattle.phases.specs.Steps.{firstOf, tokenOrBlank, linkEndIn, nameEndIn, valueStartIn, orToken, stepIn, FollowsMachine};
+use octets::editions::Edition;
+use octets::editions::is_further;
 use octets::sets::Set;
 use octets::sets::is_hex;
 use octets::sets::is_in;
@@ -95,14 +97,27 @@ fn name_end(c: u8) -> usize
     link_end(c, NAMED)
 }
 
+// `to` where it leads on, else a bare value's phase, for an octet that the edition allows there beside a token's.
+fn or_further(edition: Edition, to: usize, c: u8) -> usize
+    ensures { λ r. ⌜ r ≡ orFurther (further edition) to c ⌝ }
+{
+    if to != STUCK {
+        return to;
+    }
+    if is_further(edition, c) {
+        return BARE;
+    }
+    STUCK
+}
+
 // Behind `=`.
-fn value_start(c: u8) -> usize
-    ensures { λ r. ⌜ r ≡ valueStartIn c ⌝ }
+fn value_start(edition: Edition, c: u8) -> usize
+    ensures { λ r. ⌜ r ≡ valueStartIn (further edition) c ⌝ }
 {
     if c == b'"' {
         return QUOTE;
     }
-    token_or_blank(c, BARE, EQUALS)
+    or_further(edition, token_or_blank(c, BARE, EQUALS), c)
 }
 
 // `end` where it leads on, else the token's phase, for an octet of a token.
@@ -120,8 +135,8 @@ fn or_token(end: usize, c: u8, token: usize) -> usize
 
 // The phase behind the octet. From a number that is no phase's nothing leads on. Mostly a run has just ended here, so single octets are
 // tested before sets.
-pub fn on(phase: usize, c: u8) -> usize
-    ensures { λ r. ⌜ r ≡ stepIn phase c ⌝ }
+pub fn on(edition: Edition, phase: usize, c: u8) -> usize
+    ensures { λ r. ⌜ r ≡ stepIn (further edition) phase c ⌝ }
 {
     match phase {
         GAP => first_of(c, b'<', TARGET, b',', GAP, Set::Blank, GAP),
@@ -132,8 +147,8 @@ pub fn on(phase: usize, c: u8) -> usize
         SEMI => token_or_blank(c, NAME, SEMI),
         NAME => or_token(name_end(c), c, NAME),
         NAMED => name_end(c),
-        EQUALS => value_start(c),
-        BARE => or_token(link_end(c, AFTER), c, BARE),
+        EQUALS => value_start(edition, c),
+        BARE => or_further(edition, or_token(link_end(c, AFTER), c, BARE), c),
         QUOTE => first_of(c, b'"', AFTER, b'\\', ESCAPE, Set::Plain, QUOTE),
         ESCAPE => only(is_in(Set::Escapable, c), QUOTE),
         _ => STUCK,

@@ -1,20 +1,30 @@
 // Reads a header into lent tables. The whole header is scanned and counted, the rooms are tested once, and then the records are
 // filled in; so a refusal leaves both tables as they were.
-ghost use Rattle.outcomes.specs.Read.{Read};
+ghost use Rattle.octets.specs.Editions.{further};
+ghost use Rattle.outcomes.specs.Read.{Read, ReadIn};
 ghost use Rattle.answers.specs.Read.{readNumbers, readOut};
 use answers::LIMIT;
 use answers::Refusal;
 use answers::read_answer::ReadAnswer;
+use octets::editions::Asked;
+use octets::editions::Edition;
+use octets::editions::edition_of;
 use scanner::HeaderScan;
 
-pub fn read(header: &[u8], links: &mut [usize], params: &mut [usize]) -> ReadAnswer
-    ensures { λ r. ⌜ Read (now (header .entry)) (now (links .entry)) (now (params .entry))
+// In an edition that is known.
+pub fn read_in(
+    edition: Edition,
+    header: &[u8],
+    links: &mut [usize],
+    params: &mut [usize],
+) -> ReadAnswer
+    ensures { λ r. ⌜ ReadIn edition (now (header .entry)) (now (links .entry)) (now (params .entry))
         (readOut (readNumbers r) (now (links .exit)) (now (params .exit))) ⌝ }
 {
     if header.len() > LIMIT {
         return ReadAnswer::Refused(Refusal::TooLong);
     }
-    match scanner::header::scan(header) {
+    match scanner::header::scan(edition, header) {
         HeaderScan::Malformed(p) => ReadAnswer::Malformed(p),
         HeaderScan::Counted(counts) => {
             let link_room = records::link_room(links);
@@ -25,8 +35,24 @@ pub fn read(header: &[u8], links: &mut [usize], params: &mut [usize]) -> ReadAns
             if param_room < counts.params {
                 return ReadAnswer::Refused(Refusal::NoParamRoom);
             }
-            filling::fill(header, links, params);
+            filling::fill(edition, header, links, params);
             ReadAnswer::Done(counts)
         }
+    }
+}
+
+// In the edition of this number, if there is one.
+pub fn read(
+    edition: usize,
+    header: &[u8],
+    links: &mut [usize],
+    params: &mut [usize],
+) -> ReadAnswer
+    ensures { λ r. ⌜ Read edition (now (header .entry)) (now (links .entry)) (now (params .entry))
+        (readOut (readNumbers r) (now (links .exit)) (now (params .exit))) ⌝ }
+{
+    match edition_of(edition) {
+        Asked::Unknown => ReadAnswer::Refused(Refusal::UnknownEdition),
+        Asked::Known(known) => read_in(known, header, links, params),
     }
 }

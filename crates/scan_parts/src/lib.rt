@@ -7,7 +7,7 @@ use records::ParamRecord;
 pub mod param;
 mod quoted;
 pub mod target;
-mod value;
+pub mod value;
 
 // Where a scan ended: the place at which the header is malformed, or the cursor past what was asked.
 pub enum Scan {

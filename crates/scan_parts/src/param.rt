@@ -4,11 +4,12 @@ ghost use Rattle.scan_parts.specs.Scanned.{ParamScanned};
 use crate::ParamScan;
 use crate::value::past_value;
 use cursor::Cursor;
+use octets::editions::Edition;
 use records::ParamRecord;
 
-pub fn past_param(s: &[u8], from: Cursor) -> ParamScan
+pub fn past_param(edition: Edition, s: &[u8], from: Cursor) -> ParamScan
     requires { ⌜ Clear (now s) (from .at .0) ⌝ }
-    ensures { λ r. ⌜ ParamScanned (now (s .entry)) (from .at .0) r ⌝ }
+    ensures { λ r. ⌜ ParamScanned (further edition) (now (s .entry)) (from .at .0) r ⌝ }
 {
     let e = from.past_token(s);
     if e.at.0 == from.at.0 {
@@ -18,7 +19,7 @@ pub fn past_param(s: &[u8], from: Cursor) -> ParamScan
     let name = from.span_to(e);
     let k = e.past_blanks(s);
     if k.sees(s, b'=') {
-        return past_value(s, name, k.past_octet(s).past_blanks(s));
+        return past_value(edition, s, name, k.past_octet(s).past_blanks(s));
     }
     let value = e.span_to(e);
     ParamScan::Param(

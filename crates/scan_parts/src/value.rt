@@ -6,12 +6,20 @@ use crate::Scan;
 use crate::quoted::past_inside;
 use cursor::Cursor;
 use kinds::Span;
+use octets::editions::Edition;
 use records::ParamRecord;
 
+// The form of a value without quotes whose token octets end at k, and all of whose octets end at e.
+pub fn bare_form(k: Cursor, e: Cursor) -> usize
+    ensures { λ r. ⌜ r ≡ cond (eqb (k .at .0) (e .at .0)) 1 3 ⌝ }
+{
+    if k.at.0 == e.at.0 { 1 } else { 3 }
+}
+
 // With its value, the parameter of this name is whole.
-pub fn past_value(s: &[u8], name: Span, from: Cursor) -> ParamScan
+pub fn past_value(edition: Edition, s: &[u8], name: Span, from: Cursor) -> ParamScan
     requires { ⌜ Clear (now s) (from .at .0) ⌝ }
-    ensures { λ r. ⌜ ValueScanned (now (s .entry)) name (from .at .0) r ⌝ }
+    ensures { λ r. ⌜ ValueScanned (further edition) (now (s .entry)) name (from .at .0) r ⌝ }
 {
     if from.sees(s, b'"') {
         let start = from.past_octet(s);
@@ -30,18 +38,13 @@ pub fn past_value(s: &[u8], name: Span, from: Cursor) -> ParamScan
             }
         };
     }
-    let e = from.past_token(s);
+    let k = from.past_token(s);
+    let e = k.past_further(s, edition);
     if e.at.0 == from.at.0 {
         let at = from.at;
         return ParamScan::NoParam(at);
     }
     let value = from.span_to(e);
-    ParamScan::Param(
-        ParamRecord {
-            name,
-            value,
-            form: 1,
-        },
-        e,
-    )
+    let form = bare_form(k, e);
+    ParamScan::Param(ParamRecord { name, value, form }, e)
 }

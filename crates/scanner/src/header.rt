@@ -5,10 +5,11 @@ use crate::link::LinkScan;
 use crate::link::past_link;
 use cursor::Cursor;
 use kinds::Counts;
+use octets::editions::Edition;
 
 // Judges the whole header, and counts.
-pub fn scan(s: &[u8]) -> HeaderScan
-    ensures { λ r. ⌜ HeaderScanned (now (s .entry)) r ⌝ }
+pub fn scan(edition: Edition, s: &[u8]) -> HeaderScan
+    ensures { λ r. ⌜ HeaderScanned (further edition) (now (s .entry)) r ⌝ }
 {
     let mut c = Cursor::start();
     let mut counts = Counts {
@@ -28,7 +29,7 @@ pub fn scan(s: &[u8]) -> HeaderScan
             let at = i.at;
             return HeaderScan::Malformed(at);
         }
-        match past_link(s, i.past_octet(s)) {
+        match past_link(edition, s, i.past_octet(s)) {
             LinkScan::NoLink(p) => {
                 return HeaderScan::Malformed(p);
             }

@@ -7,6 +7,7 @@ ghost use Rattle.scanner.specs.Linked.{ParamsScanned, LinkScanned};
 use cursor::Cursor;
 use kinds::Place;
 use names::Seen;
+use octets::editions::Edition;
 use scan_parts::ParamScan;
 use scan_parts::Scan;
 use scan_parts::param::past_param;
@@ -30,9 +31,9 @@ fn counted(kept: usize, again: bool) -> usize
 }
 
 // The parameters behind a link's `>`, up to a comma or the end.
-fn past_params(s: &[u8], from: Cursor) -> LinkScan
+fn past_params(edition: Edition, s: &[u8], from: Cursor) -> LinkScan
     requires { ⌜ from .at .0 ≤ length (now s) ⌝ }
-    ensures { λ r. ⌜ ParamsScanned (now (s .entry)) (from .at .0) r ⌝ }
+    ensures { λ r. ⌜ ParamsScanned (further edition) (now (s .entry)) (from .at .0) r ⌝ }
 {
     let mut c = from;
     let mut kept: usize = 0;
@@ -49,7 +50,7 @@ fn past_params(s: &[u8], from: Cursor) -> LinkScan
             let at = i.at;
             return LinkScan::NoLink(at);
         }
-        match past_param(s, i.past_octet(s).past_blanks(s)) {
+        match past_param(edition, s, i.past_octet(s).past_blanks(s)) {
             ParamScan::NoParam(p) => {
                 return LinkScan::NoLink(p);
             }
@@ -65,12 +66,12 @@ fn past_params(s: &[u8], from: Cursor) -> LinkScan
 }
 
 // A link, from its target on.
-pub fn past_link(s: &[u8], from: Cursor) -> LinkScan
+pub fn past_link(edition: Edition, s: &[u8], from: Cursor) -> LinkScan
     requires { ⌜ from .at .0 ≤ length (now s) ⌝ }
-    ensures { λ r. ⌜ LinkScanned (now (s .entry)) (from .at .0) r ⌝ }
+    ensures { λ r. ⌜ LinkScanned (further edition) (now (s .entry)) (from .at .0) r ⌝ }
 {
     match past_target(s, from) {
         Scan::Stuck(p) => LinkScan::NoLink(p),
-        Scan::Past(c) => past_params(s, c.past_octet(s)),
+        Scan::Past(c) => past_params(edition, s, c.past_octet(s)),
     }
 }

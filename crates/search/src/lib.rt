@@ -56,6 +56,7 @@ fn first_with(
 
 // The lowest link number that has the relation.
 pub fn search(
+    edition: usize,
     text: &[u8],
     links: &[usize],
     params: &[usize],
@@ -65,7 +66,7 @@ pub fn search(
     ensures { λ r. ⌜ Search (tableOf (now (text .entry)) (now (links .entry)) (now (params .entry)) (counts .links) (counts .params))
         (now (relation .entry)) (searchOut (searchNumbers r)) ⌝ }
 {
-    let state = state_of(text, links, params, counts);
+    let state = state_of(edition, text, links, params, counts);
     match state {
         TableState::Refused(why) => SearchAnswer::Refused(why),
         TableState::Usable => first_with(text, links, params, counts, relation),

@@ -4,6 +4,9 @@ ghost use Rattle.table_check.specs.State.{IsState};
 use answers::LIMIT;
 use answers::Refusal;
 use kinds::Counts;
+use octets::editions::Asked;
+use octets::editions::Edition;
+use octets::editions::edition_of;
 
 mod links;
 
@@ -13,17 +16,41 @@ pub enum TableState {
     Refused(Refusal),
 }
 
-// A text that is too long is refused first, and then a table that isn't good.
-pub fn state_of(text: &[u8], links: &[usize], params: &[usize], counts: Counts) -> TableState
+// In an edition that is known: a text that is too long is refused first, and then a table that isn't good.
+fn state_in(
+    edition: Edition,
+    text: &[u8],
+    links: &[usize],
+    params: &[usize],
+    counts: Counts,
+) -> TableState
     ensures { λ r. ⌜
-        IsState (tableOf (now (text .entry)) (now (links .entry)) (now (params .entry)) (counts .links) (counts .params)) r ⌝ }
+        StateIn edition (tableOf (now (text .entry)) (now (links .entry)) (now (params .entry)) (counts .links) (counts .params)) r ⌝ }
 {
     if text.len() > LIMIT {
         return TableState::Refused(Refusal::TooLong);
     }
-    if links::is_good(text, links, params, counts) {
+    if links::is_good(edition, text, links, params, counts) {
         TableState::Usable
     } else {
         TableState::Refused(Refusal::BadTable)
+    }
+}
+
+// The number of an edition that there isn't is refused before all else.
+pub fn state_of(
+    edition: usize,
+    text: &[u8],
+    links: &[usize],
+    params: &[usize],
+    counts: Counts,
+) -> TableState
+    ensures { λ r. ⌜
+        IsState edition
+        (tableOf (now (text .entry)) (now (links .entry)) (now (params .entry)) (counts .links) (counts .params)) r ⌝ }
+{
+    match edition_of(edition) {
+        Asked::Unknown => TableState::Refused(Refusal::UnknownEdition),
+        Asked::Known(known) => state_in(known, text, links, params, counts),
     }
 }

@@ -8,6 +8,7 @@ ghost use Rattle.part_check.specs.Decides.{Decides};
 use kinds::Counts;
 use kinds::LinkNumber;
 use kinds::ParamNumber;
+use octets::editions::Edition;
 use param_check::are_good_params;
 use part_check::PartKind;
 use part_check::is_part;
@@ -18,24 +19,30 @@ use records::link_room;
 use records::param_room;
 
 // Whether a link is good: its target, and its parameters.
-fn is_good_link(s: &[u8], params: &[usize], l: LinkRecord) -> bool
+fn is_good_link(edition: Edition, s: &[u8], params: &[usize], l: LinkRecord) -> bool
     requires { ⌜ l .first .0 + l .count ≤ paramRoom (now params) ⌝ }
-    ensures { λ r. ⌜ Decides r (GoodLink (now (s .entry)) (toLink (now (params .entry)) l)) ⌝ }
+    ensures { λ r. ⌜ Decides r (GoodLink (further edition) (now (s .entry)) (toLink (now (params .entry)) l)) ⌝ }
 {
     let target = l.target;
     let first = l.first;
     if is_span(s, target) && is_part(s, target, PartKind::Target) {
-        return are_good_params(s, params, first, l.count);
+        return are_good_params(edition, s, params, first, l.count);
     }
     false
 }
 
 // Whether the counts fit the rooms, each link's parameters begin where the former's end, the last link's end at the parameter
 // count, and each link is good.
-pub fn is_good(text: &[u8], links: &[usize], params: &[usize], counts: Counts) -> bool
+pub fn is_good(
+    edition: Edition,
+    text: &[u8],
+    links: &[usize],
+    params: &[usize],
+    counts: Counts,
+) -> bool
     ensures { λ r. ⌜
         Decides r
-        (Good (tableOf (now (text .entry)) (now (links .entry)) (now (params .entry)) (counts .links) (counts .params))) ⌝ }
+        (Good (further edition) (tableOf (now (text .entry)) (now (links .entry)) (now (params .entry)) (counts .links) (counts .params))) ⌝ }
 {
     if counts.links > link_room(links) || counts.params > param_room(params) {
         return false;
@@ -45,7 +52,7 @@ pub fn is_good(text: &[u8], links: &[usize], params: &[usize], counts: Counts) -
     while i.0 < counts.links {
         let l = link_at(links, i);
         let left = counts.params - next.0;
-        if l.first.0 != next.0 || l.count > left || !is_good_link(text, params, l) {
+        if l.first.0 != next.0 || l.count > left || !is_good_link(edition, text, params, l) {
             return false;
         }
         next = next.plus(l.count);

@@ -10,10 +10,12 @@ use lib.Seq.{slice}
 use borrow.Author.Tests.{eqb-true}
 use Rattle.octets.specs.Sets.{all, isBlank, isToken, isEscapable}
 use Rattle.octets.specs.Fold.{folded}
+use Rattle.octets.specs.Editions.{further}
+use Rattle.octets.specs.declared.editions.Edition.the-variants.{Rfc8288}
 use Rattle.octets.proofs.Octets.{both}
 use Rattle.grammar.specs.Link.{Link, Param}
 use Rattle.grammar.specs.Grammar
-use Rattle.grammar.specs.Grammar.{rfc8288, At, In, Run, run-end, run-more, Blanks, Token, Inside, Value, token, quoted}
+use Rattle.grammar.specs.Grammar.{At, In, Run, run-end, run-more, Blanks, Token, Inside, Value, token, quoted}
 use Rattle.grammar.specs.Grammar.{
   Parameter,
   valued,
@@ -86,7 +88,7 @@ module _ (t : List ℕ) where
     a : ℕ
     b : ℕ
     f : ℕ
-    derived : Value rfc8288 t i stop a b f
+    derived : Value (further Rfc8288) t i stop a b f
     inside : stop ≤ length t
     left : drop stop t ≡ ys
     means : (n e : ℕ) → valueOf t (record { nameFrom = n; nameTo = e; valueFrom = a; valueTo = b; form = f }) ≡ v
@@ -132,7 +134,7 @@ module _ (t : List ℕ) where
   record ParamBack (p : ParamMeaning) (i : ℕ) (ys : List ℕ) : Type 0 where
     stop : ℕ
     param : Param
-    derived : (j : ℕ) (ps : List Param) → Parameters rfc8288 t stop j ps → Parameters rfc8288 t i j (param ∷ ps)
+    derived : (j : ℕ) (ps : List Param) → Parameters (further Rfc8288) t stop j ps → Parameters (further Rfc8288) t i j (param ∷ ps)
     inside : stop ≤ length t
     left : drop stop t ≡ ys
     means : paramMeaning t param ≡ p
@@ -173,7 +175,7 @@ module _ (t : List ℕ) where
   record ParamsBack (ms : List ParamMeaning) (i : ℕ) (ys : List ℕ) : Type 0 where
     stop : ℕ
     params : List Param
-    derived : Parameters rfc8288 t i stop params
+    derived : Parameters (further Rfc8288) t i stop params
     inside : stop ≤ length t
     left : drop stop t ≡ ys
     means : map (paramMeaning t) params ≡ ms
@@ -199,7 +201,7 @@ module _ (t : List ℕ) where
   record LinkBack (m : LinkMeaning) (i : ℕ) (ys : List ℕ) : Type 0 where
     stop : ℕ
     link : Link
-    derived : OneLink rfc8288 t i stop link
+    derived : OneLink (further Rfc8288) t i stop link
     inside : stop ≤ length t
     left : drop stop t ≡ ys
     means : linkMeaning t link ≡ m
@@ -224,7 +226,7 @@ module _ (t : List ℕ) where
   pub record LinksBack (ms : List LinkMeaning) (i : ℕ) : Type 0 where
     pub stop : ℕ
     pub links : List Link
-    pub derived : Items rfc8288 t i stop links
+    pub derived : Items (further Rfc8288) t i stop links
     pub ended : stop ≡ length t
     pub means : meanings t links ≡ ms
 

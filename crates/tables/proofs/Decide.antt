@@ -10,11 +10,11 @@ use lib.ListN.{length, getD}
 use Rattle.octets.specs.Sets.{isToken, isPlain, isEscapable, isTarget, isHex}
 use Rattle.grammar.specs.Link.{Link, Param}
 use Rattle.grammar.specs.Grammar.{At, In, Run, run-end, run-more, Token, Inside, inside-end, plain, pair}
-use Rattle.grammar.specs.Grammar.{Target, target-end, octet, triple}
+use Rattle.grammar.specs.Grammar.{Target, target-end, octet, triple, Extra, isBare, Wider, from-token}
 use Rattle.grammar.specs.Records.{linkRoom, paramRoom}
 use Rattle.tables.specs.Table.{firstOf, countOf, linksOf}
 use Rattle.tables.specs.Good.{Each, each-none, each-more, Follows, onceEach, InText, GoodValue, no-value, token-value}
-use Rattle.tables.specs.Good.{quoted-value, GoodParam, GoodLink}
+use Rattle.tables.specs.Good.{quoted-value, wider-value, GoodParam, GoodLink}
 use Rattle.tables.specs.Laws.{GoodDecided}
 
 either : {A B : Type 0} → Dec A → Dec B → Dec (A ⊎ B)
@@ -75,16 +75,14 @@ module _ (s : List ℕ) where
     derived? : (i j : ℕ) → Dec (X i j)
     derived? i j = derives? (length s) i j (omega arith)
 
-  token? : (i j : ℕ) → Dec (Token s i j)
-  token? i j =
-      map-dec (λ p. record { first = p .0; rest = p .1 }) (λ r. (r .first, r .rest))
-      (Dec·and (in? isToken i) (derived? steps (suc i) j))
+  run? : (f : ℕ → Bool) (i j : ℕ) → Dec (Run s f i j)
+  run? f = derived? steps
     where
-      begun : {i j : ℕ} → Run s isToken i j → Begun isToken (λ i. ⊥) suc (Run s isToken) i j
+      begun : {i j : ℕ} → Run s f i j → Begun f (λ i. ⊥) suc (Run s f) i j
       begun run-end = inl refl
       begun (run-more a r) = inr (inl (a, r))
 
-      steps : Steps isToken (λ i. ⊥) suc (Run s isToken)
+      steps : Steps f (λ i. ⊥) suc (Run s f)
       steps =
           record {
             none = run-end;
@@ -95,6 +93,11 @@ module _ (s : List ℕ) where
             stands = λ b. absurd b;
             onward = λ i. omega arith;
           }
+
+  token? : (i j : ℕ) → Dec (Token s i j)
+  token? i j =
+      map-dec (λ p. record { first = p .0; rest = p .1 }) (λ r. (r .first, r .rest))
+      (Dec·and (in? isToken i) (run? isToken (suc i) j))
 
   inside? : (i j : ℕ) → Dec (Inside s i j)
   inside? = derived? steps
@@ -142,11 +145,37 @@ module _ (s : List ℕ) where
             onward = λ i. omega arith;
           }
 
-  value? : (p : Param) → Dec (GoodValue s p)
+module _ (extra : Extra) (s : List ℕ) where
+  -- by what is left of the text, at most n octets
+  wider? : (n i j : ℕ) → length s ≤ i + n → Dec (Wider extra s i j)
+  wider? zero i j h = no ends
+    where
+      ends : Wider extra s i j → ⊥
+      ends (from-token run-end x r) = omega (arith, x .inside)
+      ends (from-token (run-more c t) x r) = omega (arith, c .inside)
+  wider? (suc n) i j h =
+      map-dec made split
+      (either (Dec·and (in? s extra i) (run? s (isBare extra) (suc i) j))
+      (Dec·and (in? s isToken i) (wider? n (suc i) j (omega arith))))
+    where
+      Cases : Type 0
+      Cases = (In s extra i × Run s (isBare extra) (suc i) j) ⊎ (In s isToken i × Wider extra s (suc i) j)
+
+      made : Cases → Wider extra s i j
+      made (inl c) = from-token run-end (c .0) (c .1)
+      made (inr (c, from-token t x r)) = from-token (run-more c t) x r
+
+      split : Wider extra s i j → Cases
+      split (from-token run-end x r) = inl (x, r)
+      split (from-token (run-more c t) x r) = inr (c, from-token t x r)
+
+  value? : (p : Param) → Dec (GoodValue extra s p)
   value? p =
       map-dec made split
       (either (Dec·and (is 0) (Dec·and (ℕ-discrete (p .valueFrom) (p .nameTo)) (ℕ-discrete (p .valueTo) (p .nameTo))))
-      (either (Dec·and (is 1) (token? (p .valueFrom) (p .valueTo))) (Dec·and (is 2) (inside? (p .valueFrom) (p .valueTo)))))
+      (either (Dec·and (is 1) (token? s (p .valueFrom) (p .valueTo)))
+      (either (Dec·and (is 2) (inside? s (p .valueFrom) (p .valueTo)))
+      (Dec·and (is 3) (wider? (length s) (p .valueFrom) (p .valueTo) (omega arith))))))
     where
       is : (n : ℕ) → Dec (p .form ≡ n)
       is = ℕ-discrete (p .form)
@@ -155,23 +184,26 @@ module _ (s : List ℕ) where
       Cases =
           ((p .form ≡ 0) × ((p .valueFrom ≡ p .nameTo) × (p .valueTo ≡ p .nameTo)))
           ⊎ ((p .form ≡ 1) × Token s (p .valueFrom) (p .valueTo)) ⊎ ((p .form ≡ 2) × Inside s (p .valueFrom) (p .valueTo))
+          ⊎ ((p .form ≡ 3) × Wider extra s (p .valueFrom) (p .valueTo))
 
-      made : Cases → GoodValue s p
+      made : Cases → GoodValue extra s p
       made (inl c) = no-value (c .0) (c .1 .0) (c .1 .1)
       made (inr (inl c)) = token-value (c .0) (c .1)
-      made (inr (inr c)) = quoted-value (c .0) (c .1)
+      made (inr (inr (inl c))) = quoted-value (c .0) (c .1)
+      made (inr (inr (inr c))) = wider-value (c .0) (c .1)
 
-      split : GoodValue s p → Cases
+      split : GoodValue extra s p → Cases
       split (no-value f a b) = inl (f, (a, b))
       split (token-value f v) = inr (inl (f, v))
-      split (quoted-value f v) = inr (inr (f, v))
+      split (quoted-value f v) = inr (inr (inl (f, v)))
+      split (wider-value f v) = inr (inr (inr (f, v)))
 
-  param? : (p : Param) → Dec (GoodParam s p)
+  param? : (p : Param) → Dec (GoodParam extra s p)
   param? p =
       map-dec (λ q. record { name-span = q .0; value-span = q .1 .0; name = q .1 .1 .0; value = q .1 .1 .1 })
       (λ g. (g .name-span, (g .value-span, (g .name, g .value))))
-      (Dec·and (span? (p .nameFrom) (p .nameTo))
-      (Dec·and (span? (p .valueFrom) (p .valueTo)) (Dec·and (token? (p .nameFrom) (p .nameTo)) (value? p))))
+      (Dec·and (span? s (p .nameFrom) (p .nameTo))
+      (Dec·and (span? s (p .valueFrom) (p .valueTo)) (Dec·and (token? s (p .nameFrom) (p .nameTo)) (value? p))))
 
 each? : {A : Type 0} {P : A → Type 0} → ((x : A) → Dec (P x)) → (xs : List A) → Dec (Each P xs)
 each? d [] = yes each-none
@@ -180,22 +212,22 @@ each? {A} {P} d (x ∷ xs) = map-dec (λ p. each-more (p .0) (p .1)) split (Dec�
     split : Each P (x ∷ xs) → P x × Each P xs
     split (each-more p ps) = (p, ps)
 
-link? : (s : List ℕ) (l : Link) → Dec (GoodLink s l)
-link? s l =
+link? : (extra : Extra) (s : List ℕ) (l : Link) → Dec (GoodLink extra s l)
+link? extra s l =
     map-dec (λ q. record { target-span = q .0; target = q .1 .0; params = q .1 .1 .0; once = q .1 .1 .1 })
     (λ g. (g .target-span, (g .target, (g .params, g .once))))
     (Dec·and (span? s (l .targetFrom) (l .targetTo))
     (Dec·and (target? s (l .targetFrom) (l .targetTo))
-    (Dec·and (each? (param? s) (l .params)) (Bool-discrete (onceEach s [] (l .params)) true))))
+    (Dec·and (each? (param? extra s) (l .params)) (Bool-discrete (onceEach s [] (l .params)) true))))
 
 follows? : (L : List ℕ) (i n at m : ℕ) → Dec (Follows L i n at m)
 follows? L i zero at m = ℕ-discrete at m
 follows? L i (suc n) at m = Dec·and (ℕ-discrete (firstOf L i) at) (follows? L (suc i) n (at + countOf L i) m)
 
 pub good-decided : GoodDecided
-good-decided t =
+good-decided extra t =
     map-dec (λ q. record { link-room = q .0; param-room = q .1 .0; follows = q .1 .1 .0; links = q .1 .1 .1 })
     (λ g. (g .link-room, (g .param-room, (g .follows, g .links))))
     (Dec·and (decLe (t .linkCount) (linkRoom (t .linkSlots)))
     (Dec·and (decLe (t .paramCount) (paramRoom (t .paramSlots)))
-    (Dec·and (follows? (t .linkSlots) 0 (t .linkCount) 0 (t .paramCount)) (each? (link? (t .text)) (linksOf t)))))
+    (Dec·and (follows? (t .linkSlots) 0 (t .linkCount) 0 (t .paramCount)) (each? (link? extra (t .text)) (linksOf t)))))

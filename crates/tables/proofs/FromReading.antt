@@ -11,7 +11,7 @@ use Rattle.octets.proofs.Octets.{both}
 use Rattle.grammar.specs.Link.{Link, Param}
 use Rattle.grammar.specs.Grammar
 use Rattle.grammar.specs.Grammar.{
-  rfc8288,
+  Extra,
   Run,
   run-end,
   run-more,
@@ -41,22 +41,23 @@ use Rattle.tables.specs.Good.{
   no-value,
   token-value,
   quoted-value,
+  wider-value,
   GoodParam,
   GoodLink,
   Good,
 }
 use Rattle.tables.specs.Laws.{filledTable, ReadTable, ReadGood}
-use Rattle.tables.proofs.Texts.{run-le, inside-le, target-le}
+use Rattle.tables.proofs.Texts.{run-le, inside-le, target-le, wider-run, wider-inside}
 use Rattle.tables.proofs.Filled.{filled-links, filled-follows, link-records-length, param-records-length}
 
-module _ (s : List ℕ) where
+module _ (extra : Extra) (s : List ℕ) where
   -- ---- each parameter that a derivation gives is good
 
   token-span : {i j : ℕ} → Token s i j → InText s i j
   token-span t = record { ordered = omega (arith, run-le s (t .rest)); inside = run-inside s (t .first .inside) (t .rest) }
 
-  value-good : {n e i j a b f : ℕ} → Token s n e → Value rfc8288 s i j a b f
-      → GoodParam s (record { nameFrom = n; nameTo = e; valueFrom = a; valueTo = b; form = f })
+  value-good : {n e i j a b f : ℕ} → Token s n e → Value extra s i j a b f
+      → GoodParam extra s (record { nameFrom = n; nameTo = e; valueFrom = a; valueTo = b; form = f })
   value-good n (token t) =
       record { name-span = token-span n; value-span = token-span t; name = n; value = token-value refl t }
   value-good n (quoted q t k) =
@@ -66,9 +67,15 @@ module _ (s : List ℕ) where
         name = n;
         value = quoted-value refl t;
       }
-  value-good n (wider t x r) = absurd (false≢true (x .is))
+  value-good n (wider w) =
+      record {
+        name-span = token-span n;
+        value-span = record { ordered = run-le s (wider-run s w); inside = wider-inside s w };
+        name = n;
+        value = wider-value refl w;
+      }
 
-  param-good : {i j : ℕ} {p : Param} → Parameter rfc8288 s i j p → GoodParam s p
+  param-good : {i j : ℕ} {p : Param} → Parameter extra s i j p → GoodParam extra s p
   param-good (valueless n bl) =
       record {
         name-span = token-span n;
@@ -78,7 +85,7 @@ module _ (s : List ℕ) where
       }
   param-good (valued n bl q cl v) = value-good n v
 
-  params-good : {i j : ℕ} {ps : List Param} → Parameters rfc8288 s i j ps → Each (GoodParam s) ps
+  params-good : {i j : ℕ} {ps : List Param} → Parameters extra s i j ps → Each (GoodParam extra s) ps
   params-good no-more = each-none
   params-good (and-one a q b p ps) = each-more (param-good p) (params-good ps)
 
@@ -131,7 +138,7 @@ module _ (s : List ℕ) where
 
   -- ---- links
 
-  link-good : {i j : ℕ} {l : Link} → Grammar.OneLink rfc8288 s i j l → GoodLink s (keptLink s l)
+  link-good : {i j : ℕ} {l : Link} → Grammar.OneLink extra s i j l → GoodLink extra s (keptLink s l)
   unfolding Agree
   link-good (link {ps = ps} q t k d) =
       record {
@@ -141,14 +148,14 @@ module _ (s : List ℕ) where
         once = once-kept [] [] ps (λ n o. refl);
       }
 
-  items-good : {i j : ℕ} {ls : List Link} → Items rfc8288 s i j ls → Each (GoodLink s) (map (keptLink s) ls)
+  items-good : {i j : ℕ} {ls : List Link} → Items extra s i j ls → Each (GoodLink extra s) (map (keptLink s) ls)
   items-good (last empty) = each-none
   items-good (last (one l)) = each-more (link-good l) each-none
   items-good (comma empty a q b it) = items-good it
   items-good (comma (one l) a q b it) = each-more (link-good l) (items-good it)
 
 pub read-good : ReadGood
-read-good h K X Y r =
+read-good extra h K X Y r =
     record {
       good =
           record {
@@ -156,7 +163,7 @@ read-good h K X Y r =
             param-room = omega (arith, length-append (paramRecords K) Y, param-records-length K);
             follows = filled-follows K X;
             links =
-                rw (filled-links K X Y, r .kept) (items-good h (r .derived .items));
+                rw (filled-links K X Y, r .kept) (items-good extra h (r .derived .items));
           };
       same-links = filled-links K X Y;
     }

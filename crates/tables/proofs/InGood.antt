@@ -5,6 +5,7 @@ use native.Mathlib.Omega.{arith}
 use mathlib.Core.Path.{_≡_, subst}
 use mathlib.Core.List.{List, _∷_}
 use Rattle.grammar.specs.Link.{Link, Param}
+use Rattle.grammar.specs.Grammar.{Extra}
 use Rattle.grammar.specs.Records.{linkRoom, paramRoom}
 use Rattle.tables.specs.Table.{Table, firstOf, countOf, paramAt, paramsFrom, linkAt, linksFrom}
 use Rattle.tables.specs.Good.{Each, each-more, Follows, GoodParam, GoodLink, Good}
@@ -50,16 +51,16 @@ follows-end L i (suc n) at m (suc j) f l =
 
 -- ---- link number i of a good table, and its parameters: by the index within the link, or by the number p in the table
 
-module _ {t : Table} (g : Good t) {i : ℕ} (l : i < t .linkCount) where
+module _ {extra : Extra} {t : Table} (g : Good extra t) {i : ℕ} (l : i < t .linkCount) where
   from-zero : 0 + i ≡ i
   from-zero = omega arith
 
   pub link-slots : i < linkRoom (t .linkSlots)
   link-slots = omega (arith, g .link-room)
 
-  pub good-link : GoodLink (t .text) (linkAt (t .linkSlots) (t .paramSlots) i)
+  pub good-link : GoodLink extra (t .text) (linkAt (t .linkSlots) (t .paramSlots) i)
   good-link =
-      subst (λ (k : ℕ). GoodLink (t .text) (linkAt (t .linkSlots) (t .paramSlots) k)) from-zero
+      subst (λ (k : ℕ). GoodLink extra (t .text) (linkAt (t .linkSlots) (t .paramSlots) k)) from-zero
       (each-link (t .linkSlots) (t .paramSlots) 0 (t .linkCount) i (g .links) l)
 
   pub params-inside : firstOf (t .linkSlots) i + countOf (t .linkSlots) i ≤ t .paramCount
@@ -70,13 +71,13 @@ module _ {t : Table} (g : Good t) {i : ℕ} (l : i < t .linkCount) where
   pub params-slots : firstOf (t .linkSlots) i + countOf (t .linkSlots) i ≤ paramRoom (t .paramSlots)
   params-slots = omega (arith, g .param-room, params-inside)
 
-  pub good-param : {j : ℕ} → j < countOf (t .linkSlots) i → GoodParam (t .text) (paramAt (t .paramSlots) (firstOf (t .linkSlots) i + j))
+  pub good-param : {j : ℕ} → j < countOf (t .linkSlots) i → GoodParam extra (t .text) (paramAt (t .paramSlots) (firstOf (t .linkSlots) i + j))
   good-param {j} h =
       each-param (t .paramSlots) (firstOf (t .linkSlots) i) (countOf (t .linkSlots) i) j (good-link .params) h
 
   pub good-param-at : (p : ℕ) → firstOf (t .linkSlots) i ≤ p → p < firstOf (t .linkSlots) i + countOf (t .linkSlots) i
-      → GoodParam (t .text) (paramAt (t .paramSlots) p)
+      → GoodParam extra (t .text) (paramAt (t .paramSlots) p)
   good-param-at p h k =
       let e : firstOf (t .linkSlots) i + (p - firstOf (t .linkSlots) i) ≡ p = omega arith in
-      subst (λ (n : ℕ). GoodParam (t .text) (paramAt (t .paramSlots) n)) e
+      subst (λ (n : ℕ). GoodParam extra (t .text) (paramAt (t .paramSlots) n)) e
       (good-param {j = p - firstOf (t .linkSlots) i} (omega arith))

@@ -7,4 +7,5 @@ pub mod ReadBack
 pub mod Filled
 pub mod FromReading
 pub mod Decide
+pub mod GoodAlike
 pub mod InGood

@@ -3,21 +3,24 @@ use Prim.Native.Nat.{ℕ, zero, suc, _+_, _≤_, _<_}
 use native.Mathlib.Nat.{zero-add}
 use native.Mathlib.Omega.{arith}
 use mathlib.Core.Path.{_≡_, refl, sym, ap, ap₂, subst, _∙_}
-use mathlib.Core.Bool.{Bool, true, false, cond, _&&_, not, false≢true}
+use mathlib.Core.Bool.{Bool, true, false, cond, _&&_, _||_, not, false≢true}
 use mathlib.Core.List.{List, [], _∷_, map}
 use lib.Dec.{eqb}
 use lib.ListN.{length, getD, length-map}
 use lib.Seq.{slice, slice-empty, slice-cons}
-use Rattle.octets.specs.Sets.{all, isToken, isEscapable}
+use Rattle.octets.specs.Sets.{all, isToken, isEscapable, isOlder}
 use Rattle.octets.specs.Fold.{fold, folded}
+use Rattle.octets.specs.Editions.{further}
+use Rattle.octets.specs.declared.editions.Edition.the-variants.{Rfc8288, Rfc5988}
 use Rattle.octets.proofs.Laws.{fold-token, token-plain, plain-escapable}
 use Rattle.octets.proofs.Octets.{both}
+use Rattle.octets.proofs.Further.{older-plain}
 use Rattle.grammar.specs.Link.{Link, Param}
-use Rattle.grammar.specs.Grammar.{rfc8288, Token, Run, run-end, run-more}
+use Rattle.grammar.specs.Grammar.{Token, isBare, Run, run-end, run-more}
 use Rattle.grammar.specs.Kept.{nameOf, among, isOnce, unless, keepAfter, keptLink, Reading}
 use Rattle.grammar.specs.Records.{countParams}
 use Rattle.grammar.proofs.Readings.{one-reading}
-use Rattle.grammar.proofs.Editions.{admissible8288}
+use Rattle.grammar.proofs.Editions.{apart, reading-alike}
 use Rattle.tables.specs.Table.{Table, paramsFrom, firstOf, countOf, linksFrom, linksOf}
 use Rattle.tables.specs.Good.{
   Each,
@@ -29,6 +32,7 @@ use Rattle.tables.specs.Good.{
   no-value,
   token-value,
   quoted-value,
+  wider-value,
   GoodParam,
   GoodLink,
   Good,
@@ -47,7 +51,8 @@ use Rattle.tables.specs.Meaning.{
 }
 use Rattle.tables.specs.Written.{written}
 use Rattle.tables.specs.Laws.{ReadsBack, ReadBack, WrittenTells}
-use Rattle.tables.proofs.Texts.{folded-folded, run-text, target-text, inside-text, run-le}
+use Rattle.tables.proofs.Texts.{folded-folded, run-text, target-text, inside-text, run-le, wider-run}
+use Rattle.tables.proofs.GoodAlike.{good-alike}
 use Rattle.tables.proofs.Back.{NameText, name-text, ParamText, LinkText, LinksBack, links-back}
 
 -- ---- the meanings of a good table can be written and read again
@@ -62,6 +67,14 @@ all-folded (c ∷ xs) e =
     let x = both (isToken c) (all isToken xs) e in
     rw (fold-token c (x .0), all-folded xs (x .1))
 
+-- an octet of a bare value may stand in a quoted string
+bare-escapable : (c : ℕ) → isBare (further Rfc5988) c ≡ true → isEscapable c ≡ true
+bare-escapable c h = go (isToken c) refl h
+  where
+    go : (b : Bool) → isToken c ≡ b → (b || isOlder c) ≡ true → isEscapable c ≡ true
+    go true e h = plain-escapable c (token-plain c e)
+    go false e h = plain-escapable c (older-plain c h)
+
 module _ (s : List ℕ) where
   folded-name : {a e : ℕ} → e ≤ length s → Token s a e → NameText (folded (slice a e s))
   folded-name {a} {e} k n =
@@ -71,7 +84,7 @@ module _ (s : List ℕ) where
       (name-text (all-folded (getD s a 0 ∷ slice (suc a) e s) (rw front at (run-text s k whole)))
       (folded-folded (getD s a 0 ∷ slice (suc a) e s)))
 
-  value-text : {p : Param} → p .valueTo ≤ length s → GoodValue s p → all isEscapable (valueOf s p) ≡ true
+  value-text : {p : Param} → p .valueTo ≤ length s → GoodValue (further Rfc5988) s p → all isEscapable (valueOf s p) ≡ true
   unfolding valueOf unescape
   value-text {p} k (no-value f a b) = rw (f, a, b, slice-empty (p .nameTo) s) refl
   value-text {p} k (token-value f t) =
@@ -79,16 +92,18 @@ module _ (s : List ℕ) where
       (all-mono (λ c h. plain-escapable c (token-plain c h)) (slice (p .valueFrom) (p .valueTo) s)
       (run-text s k (run-more (t .first) (t .rest))))
   value-text {p} k (quoted-value f t) = rw f (inside-text s k t)
+  value-text {p} k (wider-value f w) =
+      rw f (all-mono bare-escapable (slice (p .valueFrom) (p .valueTo) s) (run-text s k (wider-run s w)))
 
-  param-text : {p : Param} → GoodParam s p → ParamText (paramMeaning s p)
+  param-text : {p : Param} → GoodParam (further Rfc5988) s p → ParamText (paramMeaning s p)
   unfolding nameOf
   param-text g = record { name = folded-name (g .name-span .inside) (g .name); value = value-text (g .value-span .inside) (g .value) }
 
-  params-text : {ps : List Param} → Each (GoodParam s) ps → Each ParamText (map (paramMeaning s) ps)
+  params-text : {ps : List Param} → Each (GoodParam (further Rfc5988) s) ps → Each ParamText (map (paramMeaning s) ps)
   params-text each-none = each-none
   params-text (each-more g r) = each-more (param-text g) (params-text r)
 
-  links-text : {ls : List Link} → Each (GoodLink s) ls → Each LinkText (meanings s ls)
+  links-text : {ls : List Link} → Each (GoodLink (further Rfc5988) s) ls → Each LinkText (meanings s ls)
   links-text each-none = each-none
   links-text (each-more g r) =
       each-more (record { target = target-text s (g .target-span .inside) (g .target); params = params-text (g .params) })
@@ -110,7 +125,7 @@ module _ (s : List ℕ) where
   once-meanings earlier [] = refl
   once-meanings earlier (p ∷ ps) = rw (once-meanings (nameOf s p ∷ earlier) ps)
 
-  all-once : {ls : List Link} → Each (GoodLink s) ls → Each Once (meanings s ls)
+  all-once : {ls : List Link} → Each (GoodLink (further Rfc5988) s) ls → Each Once (meanings s ls)
   unfolding Once
   all-once each-none = each-none
   all-once (each-more {x = l} g r) = each-more (once-meanings [] (l .params) ∙ g .once) (all-once r)
@@ -156,8 +171,8 @@ unfolding countOfMeanings
 count-meant s [] = refl
 count-meant s (l ∷ ls) = rw (length-map (l .params) (paramMeaning s), count-meant s ls)
 
-pub read-back : ReadBack
-read-back t g =
+back : (t : Table) → Good (further Rfc5988) t → ReadsBack t
+back t g =
     let ms = tableMeanings t in
     let b = links-back (written ms) 0 (links-text (t .text) (g .links)) (omega arith) refl in
     let once : Each Once (meanings (written ms) (b .links)) =
@@ -166,7 +181,8 @@ read-back t g =
     record {
       links = b .links;
       reads =
-          record {
+          λ d. reading-alike (further d)
+          (record {
             links = b .links;
             derived =
                 record {
@@ -179,7 +195,7 @@ read-back t g =
                   whole = b .ended;
                 };
             kept = sym (keeps-all (written ms) (b .links) once);
-          };
+          });
       link-count =
           sym (length-map (b .links) (linkMeaning (written ms))) ∙ ap length (b .means)
           ∙ length-map (linksOf t) (linkMeaning (t .text)) ∙ links-length (t .linkSlots) (t .paramSlots) 0 (t .linkCount);
@@ -189,13 +205,20 @@ read-back t g =
       same-meanings = b .means;
     }
 
+pub read-back : ReadBack
+read-back e t g = back t (good-alike e t g)
+
 pub written-tells : WrittenTells
-written-tells t u g h e =
-    let a = read-back t g in
-    let b = read-back u h in
+written-tells e d t u g h q =
+    let a = read-back e t g in
+    let b = read-back d u h in
     let w = written (tableMeanings t) in
-    let reads : Reading rfc8288 w (b .links) = subst (λ (x : List ℕ). Reading rfc8288 x (b .links)) (sym e) (b .reads) in
-    let same : meanings w (b .links) ≡ tableMeanings u =
-    subst (λ (x : List ℕ). meanings x (b .links) ≡ tableMeanings u) (sym e) (b .same-meanings)
+    let reads : Reading (further Rfc8288) w (b .links) =
+    subst (λ (x : List ℕ). Reading (further Rfc8288) x (b .links)) (sym q) (b .reads Rfc8288)
     in
-    sym (a .same-meanings) ∙ ap (meanings w) (one-reading rfc8288 admissible8288 w (a .links) (b .links) (a .reads) reads) ∙ same
+    let same : meanings w (b .links) ≡ tableMeanings u =
+    subst (λ (x : List ℕ). meanings x (b .links) ≡ tableMeanings u) (sym q) (b .same-meanings)
+    in
+    sym (a .same-meanings) ∙ ap (meanings w) 
+    (one-reading (further Rfc8288) (apart Rfc8288) w (a .links) (b .links) (a .reads Rfc8288) reads)
+    ∙ same

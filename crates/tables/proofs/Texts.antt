@@ -2,7 +2,7 @@
 use Prim.Native.Nat.{ℕ, suc, _≤_, _<_}
 use native.Mathlib.Omega.{arith}
 use mathlib.Core.Path.{_≡_, refl, sym, ap, subst, _∙_}
-use mathlib.Core.Bool.{Bool, true, false, _&&_}
+use mathlib.Core.Bool.{Bool, true, false, _&&_, _||_}
 use mathlib.Core.List.{List, [], _∷_}
 use lib.Dec.{eqb}
 use lib.ListN.{length, getD}
@@ -24,8 +24,13 @@ use Rattle.grammar.specs.Grammar.{
   target-end,
   octet,
   triple,
+  Extra,
+  isBare,
+  Wider,
+  from-token,
 }
 use Rattle.grammar.proofs.Classes.{plain-not-backslash}
+use Rattle.grammar.proofs.Spans.{run-inside}
 use Rattle.tables.specs.Meaning.{unescapeFrom}
 
 -- octets that are a target
@@ -37,6 +42,10 @@ pub data TargetText : List ℕ → Type 0 where
 pub folded-folded : (xs : List ℕ) → folded (folded xs) ≡ folded xs
 folded-folded [] = refl
 folded-folded (c ∷ xs) = rw (fold-fold c, folded-folded xs)
+
+or-true : (a : Bool) {b : Bool} → b ≡ true → (a || b) ≡ true
+or-true true e = refl
+or-true false e = e
 
 -- a backslash is taken out, and any other octet stays
 pub unescape-pair : (d : ℕ) (cs : List ℕ) → unescapeFrom false (92 ∷ d ∷ cs) ≡ d ∷ unescapeFrom false cs
@@ -59,6 +68,17 @@ module _ (s : List ℕ) where
   target-le target-end = omega arith
   target-le (octet c r) = omega (arith, target-le r)
   target-le (triple p a b r) = omega (arith, target-le r)
+
+  -- a wider value is a run of the edition's bare octets
+  pub wider-run : {extra : Extra} {i j : ℕ} → Wider extra s i j → Run s (isBare extra) i j
+  wider-run {extra} {i} {j} (from-token {k = k} t x r) = go t
+    where
+      go : {a : ℕ} → Run s isToken a k → Run s (isBare extra) a j
+      go {a} run-end = run-more (record { inside = x .inside; is = or-true (isToken (getD s a 0)) (x .is) }) r
+      go (run-more c t) = run-more (record { inside = c .inside; is = rw (c .is) }) (go t)
+
+  pub wider-inside : {extra : Extra} {i j : ℕ} → Wider extra s i j → j ≤ length s
+  wider-inside (from-token t x r) = run-inside s (x .inside) r
 
   -- the part from i on begins with the octet at i
   begins : {i j : ℕ} {c : ℕ} → suc i ≤ j → j ≤ length s → getD s i 0 ≡ c → slice i j s ≡ c ∷ slice (suc i) j s

@@ -1,4 +1,4 @@
--- A good table, clause by clause. Whoever made it, spans may cross or stand in any order, and nothing is asked of
+-- A good table in an edition of the grammar, clause by clause. Whoever made it, spans may cross or stand in any order, and nothing is asked of
 -- the octets round a span.
 use Prim.Native.Nat.{ℕ, zero, suc, _+_, _≤_}
 use mathlib.Core.Path.{_≡_}
@@ -6,7 +6,7 @@ use mathlib.Core.Bool.{Bool, true, _&&_, not}
 use mathlib.Core.List.{List, [], _∷_}
 use lib.ListN.{length}
 use Rattle.grammar.specs.Link.{Link, Param}
-use Rattle.grammar.specs.Grammar.{Token, Inside, Target}
+use Rattle.grammar.specs.Grammar.{Extra, Token, Inside, Target, Wider}
 use Rattle.grammar.specs.Kept.{nameOf, among, isOnce}
 use Rattle.grammar.specs.Records.{linkRoom, paramRoom}
 use Rattle.tables.specs.Table.{Table, firstOf, countOf, linksOf}
@@ -35,29 +35,32 @@ module _ (s : List ℕ) where
     pub ordered : a ≤ e
     pub inside : e ≤ length s
 
-  -- a form that there is, and a value that the grammar derives for it; no value has its span, empty, where the name ends
+module _ (extra : Extra) (s : List ℕ) where
+  -- A form that there is, and a value that the grammar derives for it; no value has its span, empty, where the name ends. With no
+  -- further octets there is no value of form 3.
   pub data GoodValue (p : Param) : Type 0 where
     no-value : p .form ≡ 0 → p .valueFrom ≡ p .nameTo → p .valueTo ≡ p .nameTo → GoodValue p
     token-value : p .form ≡ 1 → Token s (p .valueFrom) (p .valueTo) → GoodValue p
     quoted-value : p .form ≡ 2 → Inside s (p .valueFrom) (p .valueTo) → GoodValue p
+    wider-value : p .form ≡ 3 → Wider extra s (p .valueFrom) (p .valueTo) → GoodValue p
 
   -- both spans lie in the text, and the name and the value obey the grammar
   pub record GoodParam (p : Param) : Type 0 where
-    pub name-span : InText (p .nameFrom) (p .nameTo)
-    pub value-span : InText (p .valueFrom) (p .valueTo)
+    pub name-span : InText s (p .nameFrom) (p .nameTo)
+    pub value-span : InText s (p .valueFrom) (p .valueTo)
     pub name : Token s (p .nameFrom) (p .nameTo)
     pub value : GoodValue p
 
   -- the target's span lies in the text and obeys the grammar, so do the parameters, and no two share a name kept once
   pub record GoodLink (l : Link) : Type 0 where
-    pub target-span : InText (l .targetFrom) (l .targetTo)
+    pub target-span : InText s (l .targetFrom) (l .targetTo)
     pub target : Target s (l .targetFrom) (l .targetTo)
     pub params : Each GoodParam (l .params)
     pub once : onceEach s [] (l .params) ≡ true
 
 -- the counts fit the rooms, the links' parameters follow one another, and each link is good
-pub record Good (t : Table) : Type 0 where
+pub record Good (extra : Extra) (t : Table) : Type 0 where
   pub link-room : t .linkCount ≤ linkRoom (t .linkSlots)
   pub param-room : t .paramCount ≤ paramRoom (t .paramSlots)
   pub follows : Follows (t .linkSlots) 0 (t .linkCount) 0 (t .paramCount)
-  pub links : Each (GoodLink (t .text)) (linksOf t)
+  pub links : Each (GoodLink extra (t .text)) (linksOf t)

@@ -7,8 +7,11 @@ use mathlib.Core.List.{List, [], _++_}
 use lib.ListN.{length}
 use Rattle.octets.specs.Sets.{oneOf}
 use Rattle.octets.specs.Fold.{folded}
+use Rattle.octets.specs.Editions.{further}
+use Rattle.octets.specs.declared.editions.Edition.{Edition}
+use Rattle.octets.specs.declared.editions.Edition.the-variants.{Rfc5988}
 use Rattle.grammar.specs.Link.{Link}
-use Rattle.grammar.specs.Grammar.{rfc8288}
+use Rattle.grammar.specs.Grammar.{Extra}
 use Rattle.grammar.specs.Kept.{Reading}
 use Rattle.grammar.specs.Records.{linkRecords, paramRecords, countParams}
 use Rattle.tables.specs.Table.{Table, linksOf}
@@ -33,7 +36,11 @@ NoQuery =
 
 -- whether a table is good is decided
 abbrev pub GoodDecided : Type 0
-GoodDecided = (t : Table) → Dec (Good t)
+GoodDecided = (extra : Extra) (t : Table) → Dec (Good extra t)
+
+-- what is good in some edition is good in the older one
+abbrev pub GoodAlike : Type 0
+GoodAlike = (e : Edition) (t : Table) → Good (further e) t → Good (further Rfc5988) t
 
 -- the table that reading fills with the links K: their records, and behind them what the slots held
 abbrev pub filledTable : List ℕ → List Link → List ℕ → List ℕ → Table
@@ -46,27 +53,28 @@ filledTable h K X Y =
       paramCount = countParams K;
     }
 
--- what is read is a good table, and its links are those of the reading
-pub record ReadTable (h : List ℕ) (K : List Link) (X Y : List ℕ) : Type 0 where
-  pub good : Good (filledTable h K X Y)
+-- what is read is a good table in the same edition, and its links are those of the reading
+pub record ReadTable (extra : Extra) (h : List ℕ) (K : List Link) (X Y : List ℕ) : Type 0 where
+  pub good : Good extra (filledTable h K X Y)
   pub same-links : linksOf (filledTable h K X Y) ≡ K
 
 abbrev pub ReadGood : Type 0
-ReadGood = (h : List ℕ) (K : List Link) (X Y : List ℕ) → Reading rfc8288 h K → ReadTable h K X Y
+ReadGood =
+    (extra : Extra) (h : List ℕ) (K : List Link) (X Y : List ℕ) → Reading extra h K → ReadTable extra h K X Y
 
--- reading back: the written form of a good table reads to the same counts and an equal list of link meanings
+-- reading back: the written form of a good table reads, in every edition, to the same counts and an equal list of link meanings
 pub record ReadsBack (t : Table) : Type 0 where
   pub links : List Link
-  pub reads : Reading rfc8288 (written (tableMeanings t)) links
+  pub reads : (d : Edition) → Reading (further d) (written (tableMeanings t)) links
   pub link-count : length links ≡ t .linkCount
   pub param-count : countParams links ≡ t .paramCount
   pub same-meanings : meanings (written (tableMeanings t)) links ≡ tableMeanings t
 
 abbrev pub ReadBack : Type 0
-ReadBack = (t : Table) → Good t → ReadsBack t
+ReadBack = (e : Edition) (t : Table) → Good (further e) t → ReadsBack t
 
--- two good tables with one written form have equal lists of link meanings
+-- two good tables, each in its edition, with one written form have equal lists of link meanings
 abbrev pub WrittenTells : Type 0
 WrittenTells =
-    (t u : Table) → Good t → Good u → written (tableMeanings t) ≡ written (tableMeanings u)
+    (e d : Edition) (t u : Table) → Good (further e) t → Good (further d) u → written (tableMeanings t) ≡ written (tableMeanings u)
     → tableMeanings t ≡ tableMeanings u

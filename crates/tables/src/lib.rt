@@ -1,6 +1,6 @@
 // The laws of tables and of the written form, held by the gate: each function promises one statement of specs/Laws.antt
 // and does nothing.
-ghost use Rattle.tables.specs.Laws.{RelationsMeant, QueryFolded, NoQuery, GoodDecided, ReadGood, ReadBack, WrittenTells};
+ghost use Rattle.tables.specs.Laws.{RelationsMeant, QueryFolded, NoQuery, GoodDecided, GoodAlike, ReadGood, ReadBack, WrittenTells};
 
 // A link's relations are told by its meaning alone.
 pub fn relations_meant()
@@ -20,6 +20,11 @@ pub fn no_query()
 // Whether a table is good is decided.
 pub fn good_decided()
     ensures { λ _. ⌜ GoodDecided ⌝ }
+{}
+
+// What is good in some edition is good in the older one.
+pub fn good_alike()
+    ensures { λ _. ⌜ GoodAlike ⌝ }
 {}
 
 // What is read is a good table, and its links are those of the reading.

@@ -43,6 +43,7 @@ fn write_table(
 
 // Writes the table's written form, and answers its length.
 pub fn write(
+    edition: usize,
     text: &[u8],
     links: &[usize],
     params: &[usize],
@@ -52,7 +53,7 @@ pub fn write(
     ensures { λ r. ⌜ Write (tableOf (now (text .entry)) (now (links .entry)) (now (params .entry)) (counts .links) (counts .params))
         (now (out .entry)) (lengthOut (lengthNumbers r) (now (out .exit))) ⌝ }
 {
-    let state = state_of(text, links, params, counts);
+    let state = state_of(edition, text, links, params, counts);
     match state {
         TableState::Refused(why) => LengthAnswer::Refused(why),
         TableState::Usable => write_table(text, links, params, counts, out),

@@ -33,6 +33,12 @@ enum-told-5 c = search needs
 is-escapable-requires : tie.Need-is-escapable-requires
 is-escapable-requires c κs = search needs
 
+enum-told-6 : tie.Need-enum-told-6
+enum-told-6 c = search needs
+
+is-ptoken-requires : tie.Need-is-ptoken-requires
+is-ptoken-requires c κs = search needs
+
 returns : tie.Need-returns
 returns c = rw (c .before .enum-told .given .1) (c .is-blank .ensures)
 
@@ -48,6 +54,9 @@ returns-4 c = rw (c .before .enum-told4 .given .1) (c .is-plain .ensures)
 returns-5 : tie.Need-returns-5
 returns-5 c = rw (c .before .enum-told5 .given .1) (c .is-escapable .ensures)
 
+returns-6 : tie.Need-returns-6
+returns-6 c = rw (c .before .enum-told6 .given .1) (c .is-ptoken .ensures)
+
 pub is-in-spec : {M : Type 1} → statement M
 is-in-spec =
     tie.close
@@ -62,8 +71,11 @@ is-in-spec =
     is-plain-requires
     enum-told-5
     is-escapable-requires
+    enum-told-6
+    is-ptoken-requires
     returns
     returns-2
     returns-3
     returns-4
-    returns-5)
+    returns-5
+    returns-6)

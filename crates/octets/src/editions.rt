@@ -1,0 +1,37 @@
+// The editions of the grammar. They differ in the octets that a value without quotes may hold beside those of a token.
+ghost use mathlib.Core.Path.{_≡_};
+ghost use Rattle.octets.specs.Editions.{further, IsAsked};
+use crate::sets::is_older;
+
+// An edition that is known: RFC 8288's, and the older one of RFC 5988.
+pub enum Edition {
+    Rfc8288,
+    Rfc5988,
+}
+
+// What a number asks for.
+pub enum Asked {
+    Known(Edition),
+    Unknown,
+}
+
+// The edition of this number, if there is one. No other place makes an edition of a number.
+pub fn edition_of(number: usize) -> Asked
+    ensures { λ r. ⌜ IsAsked number r ⌝ }
+{
+    match number {
+        0 => Asked::Known(Edition::Rfc8288),
+        1 => Asked::Known(Edition::Rfc5988),
+        _ => Asked::Unknown,
+    }
+}
+
+// Whether a value without quotes may hold the octet though a token may not.
+pub fn is_further(edition: Edition, c: u8) -> bool
+    ensures { λ r. ⌜ r ≡ further edition c ⌝ }
+{
+    match edition {
+        Edition::Rfc8288 => false,
+        Edition::Rfc5988 => is_older(c),
+    }
+}
