@@ -12,7 +12,7 @@ use lib.ListN.{length}
 use borrow.Author.Tests.{eqb-true}
 use Rattle.octets.specs.Sets.{isBlank, isToken, isPlain, isEscapable, isTarget, isHex}
 use Rattle.grammar.specs.Link.{Link}
-use Rattle.grammar.specs.Grammar.{rfc8288, Field}
+use Rattle.grammar.specs.Grammar.{Extra, Admissible, Field}
 use Rattle.grammar.specs.Place.{Malformed}
 use Rattle.grammar.specs.Machine.{
   State,
@@ -35,7 +35,6 @@ use Rattle.grammar.specs.Machine.{
   settle,
 }
 use Rattle.grammar.specs.Machine.{Open, next, nameEnd, add, flag, param, opened, inOrder}
-use Rattle.grammar.proofs.Editions.{admissible8288}
 use Rattle.grammar.proofs.Exact.{derived-read, read-derived}
 use Rattle.grammar.proofs.Prefix.{run-append}
 
@@ -77,72 +76,6 @@ out-next o c = either isOut (isBlank c) refl (either isOut (eqb c 59) refl (eith
 out-name : (o : Open) (n e c : ℕ) → isOut (nameEnd o n e c) ≡ true
 out-name o n e c = either isOut (isBlank c) refl (either isOut (eqb c 61) refl (out-next (add (flag n e) o) c))
 
--- a quote leads into a string, or kills; a backslash kills; all else leads outside
-out-quote : (st : State) (i : ℕ) → isOut st ≡ true → Inner (step rfc8288 st i 34)
-unfolding isBlank isToken isTarget isHex
-out-quote (gap ls) i e = in-dead
-out-quote (target ls a) i e = in-dead
-out-quote (percent ls a) i e = in-dead
-out-quote (hex ls a) i e = in-dead
-out-quote (after o) i e = in-dead
-out-quote (semi o) i e = in-dead
-out-quote (name o n) i e = in-dead
-out-quote (named o n k) i e = in-dead
-out-quote (equals o n k) i e = in-quote
-out-quote (bare o n k v) i e = in-dead
-out-quote (wide o n k v) i e = in-dead
-out-quote (quote o n k v) i e = absurd (false≢true e)
-out-quote (escape o n k v) i e = absurd (false≢true e)
-out-quote dead i e = in-dead
-
-out-backslash : (st : State) (i : ℕ) → isOut st ≡ true → step rfc8288 st i 92 ≡ dead
-unfolding isBlank isToken isTarget isHex
-out-backslash (gap ls) i e = refl
-out-backslash (target ls a) i e = refl
-out-backslash (percent ls a) i e = refl
-out-backslash (hex ls a) i e = refl
-out-backslash (after o) i e = refl
-out-backslash (semi o) i e = refl
-out-backslash (name o n) i e = refl
-out-backslash (named o n k) i e = refl
-out-backslash (equals o n k) i e = refl
-out-backslash (bare o n k v) i e = refl
-out-backslash (wide o n k v) i e = refl
-out-backslash (quote o n k v) i e = absurd (false≢true e)
-out-backslash (escape o n k v) i e = absurd (false≢true e)
-out-backslash dead i e = refl
-
-out-step : (st : State) (i c : ℕ) → eqb c 34 ≡ false → isOut st ≡ true → isOut (step rfc8288 st i c) ≡ true
-out-step (gap ls) i c h e =
-    either isOut (isBlank c) refl (either isOut (eqb c 44) refl (either isOut (eqb c 60) refl refl))
-out-step (target ls a) i c h e =
-    either isOut (isTarget c) refl (either isOut (eqb c 37) refl (either isOut (eqb c 62) refl refl))
-out-step (percent ls a) i c h e = either isOut (isHex c) refl refl
-out-step (hex ls a) i c h e = either isOut (isHex c) refl refl
-out-step (after o) i c h e = out-next o c
-out-step (semi o) i c h e = either isOut (isBlank c) refl (either isOut (isToken c) refl refl)
-out-step (name o n) i c h e = either isOut (isToken c) refl (out-name o n i c)
-out-step (named o n k) i c h e = out-name o n k c
-out-step (equals o n k) i c h e = rw h (either isOut (isBlank c) refl (either isOut (isToken c) refl refl))
-out-step (bare o n k v) i c h e = either isOut (isToken c) refl (out-next (add (param n k v i 1) o) c)
-out-step (wide o n k v) i c h e = either isOut (isToken c || false) refl (out-next (add (param n k v i 3) o) c)
-out-step (quote o n k v) i c h e = absurd (false≢true e)
-out-step (escape o n k v) i c h e = absurd (false≢true e)
-out-step dead i c h e = refl
-
--- inside, a quote leads outside, and all else but a backslash stays inside
-in-close : {st : State} → Inner st → (i : ℕ) → isOut (step rfc8288 st i 34) ≡ true
-in-close in-quote i = refl
-in-close in-dead i = refl
-
-in-step : {st : State} → Inner st → (i c : ℕ) → eqb c 34 ≡ false → eqb c 92 ≡ false → Inner (step rfc8288 st i c)
-in-step (in-quote {o} {n} {e} {v}) i c q b = rw (q, b) (go (isPlain c))
-  where
-    go : (p : Bool) → Inner (cond p (quote o n e v) dead)
-    go true = in-quote
-    go false = in-dead
-in-step in-dead i c q b = in-dead
-
 -- the machine x reads a header from its start, and y goes on behind a malformed one
 data Beside (x y : State) : Type 0 where
   inner : isOut x ≡ true → Inner y → Beside x y
@@ -151,107 +84,177 @@ data Beside (x y : State) : Type 0 where
   over : y ≡ dead → Beside x y
   lost : x ≡ dead → Beside x y
 
--- before its first link a header has blanks, which stand in no target, commas, which do, and then a `<`, which doesn't
-waits-step : (ls : List Link) {y : State} → Targeted y → (i j c : ℕ) → Beside (step rfc8288 (gap ls) i c) (step rfc8288 y j c)
-unfolding isBlank isTarget
-waits-step ls no-target i j c = over refl
-waits-step ls (in-target {ls = ms} {a = a}) i j c = go (eqb c 32) refl (eqb c 9) refl (eqb c 44) refl (eqb c 60) refl
-  where
-    B : ℕ → Type 0
-    B d = Beside (step rfc8288 (gap ls) i d) (step rfc8288 (target ms a) j d)
+-- in an edition in which no backslash stands in a bare value
+module _ (extra : Extra) (apart : Admissible extra) (back : extra 92 ≡ false) where
+  -- a quote leads into a string, or kills; a backslash kills; all else leads outside
+  out-quote : (st : State) (i : ℕ) → isOut st ≡ true → Inner (step extra st i 34)
+  unfolding isBlank isToken isTarget isHex
+  out-quote (gap ls) i e = in-dead
+  out-quote (target ls a) i e = in-dead
+  out-quote (percent ls a) i e = in-dead
+  out-quote (hex ls a) i e = in-dead
+  out-quote (after o) i e = in-dead
+  out-quote (semi o) i e = in-dead
+  out-quote (name o n) i e = in-dead
+  out-quote (named o n k) i e = in-dead
+  out-quote (equals o n k) i e = in-quote
+  out-quote (bare o n k v) i e = rw (apart .quote) in-dead
+  out-quote (wide o n k v) i e = rw (apart .quote) in-dead
+  out-quote (quote o n k v) i e = absurd (false≢true e)
+  out-quote (escape o n k v) i e = absurd (false≢true e)
+  out-quote dead i e = in-dead
 
-    go : (p : Bool) → eqb c 32 ≡ p → (q : Bool) → eqb c 9 ≡ q → (r : Bool) → eqb c 44 ≡ r → (s : Bool) → eqb c 60 ≡ s → B c
-    go true e q f r g s h = subst B (sym (eqb-true c 32 e)) (over refl)
-    go false e true f r g s h = subst B (sym (eqb-true c 9 f)) (over refl)
-    go false e false f true g s h = subst B (sym (eqb-true c 44 g)) (waits refl in-target)
-    go false e false f false g true h = subst B (sym (eqb-true c 60 h)) (over refl)
-    go false e false f false g false h = lost (rw (e, f, g, h) refl)
+  out-backslash : (st : State) (i : ℕ) → isOut st ≡ true → step extra st i 92 ≡ dead
+  unfolding isBlank isToken isTarget isHex
+  out-backslash (gap ls) i e = refl
+  out-backslash (target ls a) i e = refl
+  out-backslash (percent ls a) i e = refl
+  out-backslash (hex ls a) i e = refl
+  out-backslash (after o) i e = refl
+  out-backslash (semi o) i e = refl
+  out-backslash (name o n) i e = refl
+  out-backslash (named o n k) i e = refl
+  out-backslash (equals o n k) i e = rw back refl
+  out-backslash (bare o n k v) i e = rw back refl
+  out-backslash (wide o n k v) i e = rw back refl
+  out-backslash (quote o n k v) i e = absurd (false≢true e)
+  out-backslash (escape o n k v) i e = absurd (false≢true e)
+  out-backslash dead i e = refl
 
-beside-step : {x y : State} → Beside x y → (i j c : ℕ) → Beside (step rfc8288 x i c) (step rfc8288 y j c)
-beside-step {x} {y} (inner p q) i j c = go (eqb c 34) refl (eqb c 92) refl
-  where
-    go : (a : Bool) → eqb c 34 ≡ a → (b : Bool) → eqb c 92 ≡ b → Beside (step rfc8288 x i c) (step rfc8288 y j c)
-    go true e b f = rw (eqb-true c 34 e) (outer (out-quote x i p) (in-close q j))
-    go false e true f = rw (eqb-true c 92 f) (lost (out-backslash x i p))
-    go false e false f = inner (out-step x i c e p) (in-step q j c e f)
-beside-step {x} {y} (outer p q) i j c = go (eqb c 34) refl (eqb c 92) refl
-  where
-    go : (a : Bool) → eqb c 34 ≡ a → (b : Bool) → eqb c 92 ≡ b → Beside (step rfc8288 x i c) (step rfc8288 y j c)
-    go true e b f = rw (eqb-true c 34 e) (inner (in-close p i) (out-quote y j q))
-    go false e true f = rw (eqb-true c 92 f) (over (out-backslash y j q))
-    go false e false f = outer (in-step p i c e f) (out-step y j c e q)
-beside-step {x} {y} (waits {ls} e t) i j c =
-    subst (λ (z : State). Beside (step rfc8288 z i c) (step rfc8288 y j c)) (sym e) (waits-step ls t i j c)
-beside-step {x} {y} (over e) i j c = over (ap (λ (z : State). step rfc8288 z j c) e)
-beside-step {x} {y} (lost e) i j c = lost (ap (λ (z : State). step rfc8288 z i c) e)
+  out-step : (st : State) (i c : ℕ) → eqb c 34 ≡ false → isOut st ≡ true → isOut (step extra st i c) ≡ true
+  out-step (gap ls) i c h e =
+      either isOut (isBlank c) refl (either isOut (eqb c 44) refl (either isOut (eqb c 60) refl refl))
+  out-step (target ls a) i c h e =
+      either isOut (isTarget c) refl (either isOut (eqb c 37) refl (either isOut (eqb c 62) refl refl))
+  out-step (percent ls a) i c h e = either isOut (isHex c) refl refl
+  out-step (hex ls a) i c h e = either isOut (isHex c) refl refl
+  out-step (after o) i c h e = out-next o c
+  out-step (semi o) i c h e = either isOut (isBlank c) refl (either isOut (isToken c) refl refl)
+  out-step (name o n) i c h e = either isOut (isToken c) refl (out-name o n i c)
+  out-step (named o n k) i c h e = out-name o n k c
+  out-step (equals o n k) i c h e =
+      rw h (either isOut (isBlank c) refl (either isOut (isToken c) refl (either isOut (extra c) refl refl)))
+  out-step (bare o n k v) i c h e =
+      either isOut (isToken c) refl (either isOut (extra c) refl (out-next (add (param n k v i 1) o) c))
+  out-step (wide o n k v) i c h e = either isOut (isToken c || extra c) refl (out-next (add (param n k v i 3) o) c)
+  out-step (quote o n k v) i c h e = absurd (false≢true e)
+  out-step (escape o n k v) i c h e = absurd (false≢true e)
+  out-step dead i c h e = refl
 
-beside-run : (t : List ℕ) {x y : State} → Beside x y → (i j : ℕ) → Beside (run rfc8288 x i t) (run rfc8288 y j t)
-beside-run [] b i j = b
-beside-run (c ∷ t) b i j = beside-run t (beside-step b i j c) (suc i) (suc j)
+  -- inside, a quote leads outside, and all else but a backslash stays inside
+  in-close : {st : State} → Inner st → (i : ℕ) → isOut (step extra st i 34) ≡ true
+  in-close in-quote i = refl
+  in-close in-dead i = refl
 
-never : {A : Type 0} {ls : List Link} → none ≡ some ls → A
-never e =
-    let z : _≡_ {A = ℕ} 0 1 = cc in
-    absurd (omega arith)
+  in-step : {st : State} → Inner st → (i c : ℕ) → eqb c 34 ≡ false → eqb c 92 ≡ false → Inner (step extra st i c)
+  in-step (in-quote {o} {n} {e} {v}) i c q b = rw (q, b) (go (isPlain c))
+    where
+      go : (p : Bool) → Inner (cond p (quote o n e v) dead)
+      go true = in-quote
+      go false = in-dead
+  in-step in-dead i c q b = in-dead
 
-inner-unsettled : {st : State} → Inner st → (i : ℕ) → settle st i ≡ none
-inner-unsettled in-quote i = refl
-inner-unsettled in-dead i = refl
+  -- before its first link a header has blanks, which stand in no target, commas, which do, and then a `<`, which doesn't
+  waits-step : (ls : List Link) {y : State} → Targeted y → (i j c : ℕ) → Beside (step extra (gap ls) i c) (step extra y j c)
+  unfolding isBlank isTarget
+  waits-step ls no-target i j c = over refl
+  waits-step ls (in-target {ls = ms} {a = a}) i j c = go (eqb c 32) refl (eqb c 9) refl (eqb c 44) refl (eqb c 60) refl
+    where
+      B : ℕ → Type 0
+      B d = Beside (step extra (gap ls) i d) (step extra (target ms a) j d)
 
--- where a header may end for x, it may not for y
-beside-end : {x y : State} → Beside x y → (i j : ℕ) (ls : List Link) → settle x i ≡ some ls → settle y j ≡ none
-beside-end (inner p q) i j ls s = inner-unsettled q j
-beside-end (outer p q) i j ls s = never (sym (inner-unsettled p i) ∙ s)
-beside-end (waits e in-target) i j ls s = refl
-beside-end (waits e no-target) i j ls s = refl
-beside-end (over e) i j ls s = ap (λ (z : State). settle z j) e
-beside-end (lost e) i j ls s = never (sym (ap (λ (z : State). settle z i) e) ∙ s)
+      go : (p : Bool) → eqb c 32 ≡ p → (q : Bool) → eqb c 9 ≡ q → (r : Bool) → eqb c 44 ≡ r → (s : Bool) → eqb c 60 ≡ s → B c
+      go true e q f r g s h = subst B (sym (eqb-true c 32 e)) (over refl)
+      go false e true f r g s h = subst B (sym (eqb-true c 9 f)) (over refl)
+      go false e false f true g s h = subst B (sym (eqb-true c 44 g)) (waits refl in-target)
+      go false e false f false g true h = subst B (sym (eqb-true c 60 h)) (over refl)
+      go false e false f false g false h = lost (rw (e, f, g, h) refl)
 
--- where a header may not end, a comma leads into a target or a string, or kills
-comma-beside : (st : State) (i : ℕ) → settle st i ≡ none → Beside (gap []) (step rfc8288 st i 44)
-unfolding isBlank isToken isPlain isEscapable isTarget isHex
-comma-beside (gap ls) i e = never (sym e)
-comma-beside (target ls a) i e = waits refl in-target
-comma-beside (percent ls a) i e = over refl
-comma-beside (hex ls a) i e = over refl
-comma-beside (after o) i e = never (sym e)
-comma-beside (semi o) i e = over refl
-comma-beside (name o n) i e = never (sym e)
-comma-beside (named o n k) i e = never (sym e)
-comma-beside (equals o n k) i e = over refl
-comma-beside (bare o n k v) i e = never (sym e)
-comma-beside (wide o n k v) i e = never (sym e)
-comma-beside (quote o n k v) i e = inner refl in-quote
-comma-beside (escape o n k v) i e = inner refl in-quote
-comma-beside dead i e = over refl
+  beside-step : {x y : State} → Beside x y → (i j c : ℕ) → Beside (step extra x i c) (step extra y j c)
+  beside-step {x} {y} (inner p q) i j c = go (eqb c 34) refl (eqb c 92) refl
+    where
+      go : (a : Bool) → eqb c 34 ≡ a → (b : Bool) → eqb c 92 ≡ b → Beside (step extra x i c) (step extra y j c)
+      go true e b f = rw (eqb-true c 34 e) (outer (out-quote x i p) (in-close q j))
+      go false e true f = rw (eqb-true c 92 f) (lost (out-backslash x i p))
+      go false e false f = inner (out-step x i c e p) (in-step q j c e f)
+  beside-step {x} {y} (outer p q) i j c = go (eqb c 34) refl (eqb c 92) refl
+    where
+      go : (a : Bool) → eqb c 34 ≡ a → (b : Bool) → eqb c 92 ≡ b → Beside (step extra x i c) (step extra y j c)
+      go true e b f = rw (eqb-true c 34 e) (inner (in-close p i) (out-quote y j q))
+      go false e true f = rw (eqb-true c 92 f) (over (out-backslash y j q))
+      go false e false f = outer (in-step p i c e f) (out-step y j c e q)
+  beside-step {x} {y} (waits {ls} e t) i j c =
+      subst (λ (z : State). Beside (step extra z i c) (step extra y j c)) (sym e) (waits-step ls t i j c)
+  beside-step {x} {y} (over e) i j c = over (ap (λ (z : State). step extra z j c) e)
+  beside-step {x} {y} (lost e) i j c = lost (ap (λ (z : State). step extra z i c) e)
 
--- the links of a derived header, last first
-settled : (s : List ℕ) {R : List Link} → Field rfc8288 s R
-    → (ls : List Link) × (settle (run rfc8288 (gap []) 0 s) (length s) ≡ some ls)
-settled s {R} f = go (settle (run rfc8288 (gap []) 0 s) (length s)) refl (derived-read rfc8288 admissible8288 s f)
-  where
-    go : (x : Option (List Link)) → settle (run rfc8288 (gap []) 0 s) (length s) ≡ x → inOrder x ≡ some R
-        → (ls : List Link) × (settle (run rfc8288 (gap []) 0 s) (length s) ≡ some ls)
-    go none q e = never e
-    go (some ls) q e = (ls, q)
+  beside-run : (t : List ℕ) {x y : State} → Beside x y → (i j : ℕ) → Beside (run extra x i t) (run extra y j t)
+  beside-run [] b i j = b
+  beside-run (c ∷ t) b i j = beside-run t (beside-step b i j c) (suc i) (suc j)
 
-unsettled : (s : List ℕ) → Malformed rfc8288 s → settle (run rfc8288 (gap []) 0 s) (length s) ≡ none
-unsettled s bad = go (settle (run rfc8288 (gap []) 0 s) (length s)) refl
-  where
-    go : (x : Option (List Link)) → settle (run rfc8288 (gap []) 0 s) (length s) ≡ x
-        → settle (run rfc8288 (gap []) 0 s) (length s) ≡ none
-    go none q = q
-    go (some ls) q = absurd (bad _ (read-derived rfc8288 admissible8288 s (ap inOrder q)))
+  never : {A : Type 0} {ls : List Link} → none ≡ some ls → A
+  never e =
+      let z : _≡_ {A = ℕ} 0 1 = cc in
+      absurd (omega arith)
 
-pub malformed-first : (s t : List ℕ) {R : List Link} → Malformed rfc8288 s → Field rfc8288 t R → Malformed rfc8288 (s ++ 44 ∷ t)
-malformed-first s t bad f Q g =
-    let n = length s in
-    let (ls, q) = settled t f in
-    let st = run rfc8288 (gap []) 0 s in
-    let u : settle st (0 + n) ≡ none = subst (λ (k : ℕ). settle st k ≡ none) (omega arith) (unsettled s bad) in
-    let b = beside-run t (comma-beside st (0 + n) u) 0 (suc (0 + n)) in
-    let (ms, r) = settled (s ++ 44 ∷ t) g in
-    never
-    (sym (beside-end b (length t) (length (s ++ 44 ∷ t)) ls q)
-    ∙ ap (λ (x : State). settle x (length (s ++ 44 ∷ t))) (sym (run-append rfc8288 s (44 ∷ t) (gap []) 0))
-    ∙ r)
+  inner-unsettled : {st : State} → Inner st → (i : ℕ) → settle st i ≡ none
+  inner-unsettled in-quote i = refl
+  inner-unsettled in-dead i = refl
+
+  -- where a header may end for x, it may not for y
+  beside-end : {x y : State} → Beside x y → (i j : ℕ) (ls : List Link) → settle x i ≡ some ls → settle y j ≡ none
+  beside-end (inner p q) i j ls s = inner-unsettled q j
+  beside-end (outer p q) i j ls s = never (sym (inner-unsettled p i) ∙ s)
+  beside-end (waits e in-target) i j ls s = refl
+  beside-end (waits e no-target) i j ls s = refl
+  beside-end (over e) i j ls s = ap (λ (z : State). settle z j) e
+  beside-end (lost e) i j ls s = never (sym (ap (λ (z : State). settle z i) e) ∙ s)
+
+  -- where a header may not end, a comma leads into a target or a string, or kills
+  comma-beside : (st : State) (i : ℕ) → settle st i ≡ none → Beside (gap []) (step extra st i 44)
+  unfolding isBlank isToken isPlain isEscapable isTarget isHex
+  comma-beside (gap ls) i e = never (sym e)
+  comma-beside (target ls a) i e = waits refl in-target
+  comma-beside (percent ls a) i e = over refl
+  comma-beside (hex ls a) i e = over refl
+  comma-beside (after o) i e = never (sym e)
+  comma-beside (semi o) i e = over refl
+  comma-beside (name o n) i e = never (sym e)
+  comma-beside (named o n k) i e = never (sym e)
+  comma-beside (equals o n k) i e = rw (apart .comma) (over refl)
+  comma-beside (bare o n k v) i e = never (sym e)
+  comma-beside (wide o n k v) i e = never (sym e)
+  comma-beside (quote o n k v) i e = inner refl in-quote
+  comma-beside (escape o n k v) i e = inner refl in-quote
+  comma-beside dead i e = over refl
+
+  -- the links of a derived header, last first
+  settled : (s : List ℕ) {R : List Link} → Field extra s R
+      → (ls : List Link) × (settle (run extra (gap []) 0 s) (length s) ≡ some ls)
+  settled s {R} f = go (settle (run extra (gap []) 0 s) (length s)) refl (derived-read extra apart s f)
+    where
+      go : (x : Option (List Link)) → settle (run extra (gap []) 0 s) (length s) ≡ x → inOrder x ≡ some R
+          → (ls : List Link) × (settle (run extra (gap []) 0 s) (length s) ≡ some ls)
+      go none q e = never e
+      go (some ls) q e = (ls, q)
+
+  unsettled : (s : List ℕ) → Malformed extra s → settle (run extra (gap []) 0 s) (length s) ≡ none
+  unsettled s bad = go (settle (run extra (gap []) 0 s) (length s)) refl
+    where
+      go : (x : Option (List Link)) → settle (run extra (gap []) 0 s) (length s) ≡ x
+          → settle (run extra (gap []) 0 s) (length s) ≡ none
+      go none q = q
+      go (some ls) q = absurd (bad _ (read-derived extra apart s (ap inOrder q)))
+
+  pub malformed-first : (s t : List ℕ) {R : List Link} → Malformed extra s → Field extra t R → Malformed extra (s ++ 44 ∷ t)
+  malformed-first s t bad f Q g =
+      let n = length s in
+      let (ls, q) = settled t f in
+      let st = run extra (gap []) 0 s in
+      let u : settle st (0 + n) ≡ none = subst (λ (k : ℕ). settle st k ≡ none) (omega arith) (unsettled s bad) in
+      let b = beside-run t (comma-beside st (0 + n) u) 0 (suc (0 + n)) in
+      let (ms, r) = settled (s ++ 44 ∷ t) g in
+      never
+      (sym (beside-end b (length t) (length (s ++ 44 ∷ t)) ls q)
+      ∙ ap (λ (x : State). settle x (length (s ++ 44 ∷ t))) (sym (run-append extra s (44 ∷ t) (gap []) 0))
+      ∙ r)

@@ -5,28 +5,31 @@ use mathlib.Core.Path.{_≡_, refl, sym, ap, subst, _∙_}
 use mathlib.Core.List.{List, []}
 use lib.ListN.{length, take}
 use lib.Seq.{take-length}
-use Rattle.grammar.specs.Grammar.{rfc8288}
+use Rattle.octets.specs.Editions.{further}
+use Rattle.octets.specs.declared.editions.Edition.{Edition}
 use Rattle.grammar.specs.Place.{Begins}
 use Rattle.grammar.specs.Machine.{gap, run, phaseOf}
 use Rattle.outcomes.specs.Number.{limit}
 use Rattle.outcomes.specs.Read.{ReadOut}
 use Rattle.outcomes.specs.Feed.{FeedOut}
-use Rattle.outcomes.specs.Feeding.{Feeding, Holds, over, stuck, begun, AnyFeed, small-buffer, too-long, remembered, faulty, stored, Feeds, Finishes}
-use Rattle.outcomes.proofs.FeedSettled.{feed-settled, finish-settled}
+use Rattle.outcomes.specs.Feeding.{Feeding, Holds, over, stuck, begun, movedTo, Feeds, Finishes}
+use Rattle.outcomes.specs.Feeding.{AnyFeed, small-buffer, too-long, remembered, faulty, stored}
+use Rattle.outcomes.proofs.FeedSettled.{feed-in, finish-in}
 use Rattle.laws.specs.Feedings.{OneAnswer}
+use Rattle.laws.proofs.HandedRight.{feeds-in, finishes-in}
 
 -- the phase of a state whose place is its total
-phase-told : {octets b : List ℕ} {s : Feeding} → Holds octets b s → s .place ≡ s .total → s .total ≤ limit
-    → s .phase ≡ phaseOf (run rfc8288 (gap []) 0 octets)
+phase-told : {ed : Edition} {octets b : List ℕ} {s : Feeding} → Holds ed octets b s → s .place ≡ s .total → s .total ≤ limit
+    → s .phase ≡ phaseOf (run (further ed) (gap []) 0 octets)
 phase-told (over l) e h = absurd (omega arith)
-phase-told {octets} (stuck {k = k} l n p) e h =
-    absurd (n (subst (λ (u : List ℕ). Begins rfc8288 u) (ap (λ (j : ℕ). take j octets) e ∙ take-length octets) (p .begins)))
+phase-told {ed} {octets} (stuck {k = k} l n p) e h =
+    absurd (n (subst (λ (u : List ℕ). Begins (further ed) u) (ap (λ (j : ℕ). take j octets) e ∙ take-length octets) (p .begins)))
 phase-told (begun l b t) e h = refl
 
 -- one next state for one answer
-module _ {st : Feeding} {part buffer octets b c : List ℕ} where
+module _ (ed : Edition) {st : Feeding} {part buffer octets b c : List ℕ} where
   same-next : {o p : FeedOut} {next more : Feeding} → AnyFeed st part buffer o next → AnyFeed st part buffer p more
-      → o .number ≡ p .number → o .place ≡ p .place → Holds octets b next → Holds octets c more → next ≡ more
+      → o .number ≡ p .number → o .place ≡ p .place → Holds ed octets b next → Holds ed octets c more → next ≡ more
   same-next (small-buffer _) (small-buffer _) e f x y = refl
   same-next (small-buffer _) (too-long _ _) e f x y = absurd (omega arith)
   same-next (small-buffer _) (remembered _ _ _) e f x y = absurd (omega arith)
@@ -40,34 +43,36 @@ module _ {st : Feeding} {part buffer octets b c : List ℕ} where
   same-next (remembered _ _ _) (small-buffer _) e f x y = absurd (omega arith)
   same-next (remembered _ _ _) (too-long _ _) e f x y = absurd (omega arith)
   same-next (remembered _ _ _) (remembered _ _ _) e f x y = refl
-  same-next (remembered _ _ _) (faulty _ _ _ _) e f x y = ap (λ (k : ℕ). record { phase = st .phase; total = st .total + length part; place = k }) f
+  same-next (remembered _ _ _) (faulty _ _ _ _) e f x y = ap (λ (k : ℕ). movedTo st part buffer (st .phase) (st .total + length part) k) f
   same-next (remembered _ _ _) (stored _ _ _) e f x y = absurd (omega arith)
   same-next (faulty _ _ _ _) (small-buffer _) e f x y = absurd (omega arith)
   same-next (faulty _ _ _ _) (too-long _ _) e f x y = absurd (omega arith)
-  same-next (faulty _ _ _ _) (remembered _ _ _) e f x y = ap (λ (k : ℕ). record { phase = st .phase; total = st .total + length part; place = k }) f
-  same-next (faulty _ _ _ _) (faulty _ _ _ _) e f x y = ap (λ (k : ℕ). record { phase = st .phase; total = st .total + length part; place = k }) f
+  same-next (faulty _ _ _ _) (remembered _ _ _) e f x y = ap (λ (k : ℕ). movedTo st part buffer (st .phase) (st .total + length part) k) f
+  same-next (faulty _ _ _ _) (faulty _ _ _ _) e f x y = ap (λ (k : ℕ). movedTo st part buffer (st .phase) (st .total + length part) k) f
   same-next (faulty _ _ _ _) (stored _ _ _) e f x y = absurd (omega arith)
   same-next (stored _ _ _) (small-buffer _) e f x y = absurd (omega arith)
   same-next (stored _ _ _) (too-long _ _) e f x y = absurd (omega arith)
   same-next (stored _ _ _) (remembered _ _ _) e f x y = absurd (omega arith)
   same-next (stored _ _ _) (faulty _ _ _ _) e f x y = absurd (omega arith)
   same-next (stored _ s _) (stored _ _ _) e f x y =
-      ap (λ (p : ℕ). record { phase = p; total = st .total + length part; place = st .total + length part })
+      ap (λ (p : ℕ). movedTo st part buffer p (st .total + length part) (st .total + length part))
       (phase-told x refl s ∙ sym (phase-told y refl s))
 
 -- of a state and a buffer that are right for some octets, a feed has one answer and one next state
-one-feed : (octets part buffer : List ℕ) (st next more : Feeding) (o p : FeedOut) → Holds octets buffer st
+one-feed : (e : Edition) (octets part buffer : List ℕ) (st next more : Feeding) (o p : FeedOut) → Holds e octets buffer st
     → Feeds st part buffer o next → Feeds st part buffer p more → (o ≡ p) × (next ≡ more)
-one-feed octets part buffer st next more o p d f g =
-    let one = feed-settled octets part buffer .2 in
-    let e : o ≡ p = one o (f .answers octets d) ∙ sym (one p (g .answers octets d)) in
-    (e, same-next (f .any) (g .any) (ap (λ (x : FeedOut). x .number) e) (ap (λ (x : FeedOut). x .place) e) (f .holds octets d) (g .holds octets d))
+one-feed e octets part buffer st next more o p d f g =
+    let one = feed-in e octets part buffer .2 in
+    let x = feeds-in e d f in
+    let y = feeds-in e d g in
+    let q : o ≡ p = one o (x .answers octets d) ∙ sym (one p (y .answers octets d)) in
+    (q, same-next e (x .any) (y .any) (ap (λ (z : FeedOut). z .number) q) (ap (λ (z : FeedOut). z .place) q) (x .holds octets d) (y .holds octets d))
 
-one-finish : (octets buffer L P : List ℕ) (st : Feeding) (o p : ReadOut) → Holds octets buffer st
+one-finish : (e : Edition) (octets buffer L P : List ℕ) (st : Feeding) (o p : ReadOut) → Holds e octets buffer st
     → Finishes st buffer L P o → Finishes st buffer L P p → o ≡ p
-one-finish octets buffer L P st o p d f g =
-    let one = finish-settled octets buffer L P .2 in
-    one o (f .answers octets d) ∙ sym (one p (g .answers octets d))
+one-finish e octets buffer L P st o p d f g =
+    let one = finish-in e octets buffer L P .2 in
+    one o (finishes-in e d f .answers octets d) ∙ sym (one p (finishes-in e d g .answers octets d))
 
 pub one-answer : OneAnswer
 one-answer = record { feed = one-feed; finish = one-finish }

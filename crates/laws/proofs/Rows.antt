@@ -1,64 +1,116 @@
 -- The rows hold: each test is computed.
 use native.Mathlib.Omega.{arith}
+use Prim.Native.Nat.{_≤_}
 use mathlib.Core.Path.{refl}
+use mathlib.Core.Bool.{false≢true}
 use lib.ListN.{length}
 use borrow.Author.Tests.{leb-true}
 use Rattle.outcomes.specs.Number.{limit}
-use Rattle.outcomes.specs.Usable.{Usable}
+use Rattle.outcomes.specs.InEdition.{known}
+use Rattle.outcomes.specs.Usable.{Usable, usable, refused, not-good}
 use Rattle.outcomes.specs.Context.{no-such-link, anchored, unanchored}
 use Rattle.outcomes.specs.Copy.{no-such-param, copied}
-use Rattle.octets.specs.Sets.{isBlank, isDigit, isLetter, isToken, isPlain, isEscapable, isTarget, isHex}
+use Rattle.octets.specs.Sets.{isBlank, isDigit, isLetter, isToken, isPlain, isEscapable, isTarget, isHex, isOlder}
 use Rattle.octets.specs.Fold.{fold, sameFolded}
 use Rattle.octets.specs.Text.{octets}
-use Rattle.grammar.specs.Grammar.{rfc8288}
-use Rattle.grammar.proofs.Editions.{admissible8288}
+use Rattle.octets.specs.Editions.{further}
+use Rattle.octets.specs.declared.editions.Edition.{Edition}
+use Rattle.octets.specs.declared.editions.Edition.the-variants.{Rfc8288, Rfc5988}
+use Rattle.grammar.proofs.Editions.{apart}
 use Rattle.grammar.proofs.Readings.{read-reading, unread-malformed}
 use Rattle.grammar.specs.Kept.{nameOf, codeOf, isOnce}
+use Rattle.grammar.specs.Grammar.{from-token}
+use Rattle.tables.specs.Table.{paramAt}
+use Rattle.tables.specs.Good.{Good, GoodValue, no-value, token-value, quoted-value, wider-value}
+use Rattle.tables.proofs.InGood.{head-of}
 use Rattle.tables.specs.Meaning.{unescape, valueOf}
 use Rattle.tables.specs.Relation.{runs, relations, hasRelation}
 use Rattle.tables.specs.Written.{writtenValue}
 use Rattle.laws.specs.Marked.{marked}
 use Rattle.laws.specs.Slips.{slips}
-use Rattle.laws.specs.Laws.{MarkedHold, SlipsHold, third, fifth, LookupsHold, PremiseNeeded}
+use Rattle.laws.specs.Older.{older, olderRefused}
+use Rattle.laws.specs.Laws.{MarkedHold, SlipsHold, OlderHold, third, fifth, mirror, LookupsHold, MirrorHolds, PremiseNeeded}
 use Rattle.laws.proofs.Checked.{recorded-known, rows-hold}
 
 pub marked-hold : MarkedHold
-unfolding isBlank isDigit isLetter isToken isPlain isEscapable isTarget isHex fold sameFolded nameOf codeOf isOnce unescape valueOf runs relations hasRelation writtenValue
-marked-hold = rows-hold marked refl
+unfolding isBlank isDigit isLetter isToken isPlain isEscapable isTarget isHex isOlder fold sameFolded nameOf codeOf isOnce unescape valueOf runs relations hasRelation writtenValue
+marked-hold = rows-hold Rfc8288 marked refl
 
 pub slips-hold : SlipsHold
-unfolding isBlank isDigit isLetter isToken isPlain isEscapable isTarget isHex fold sameFolded nameOf codeOf isOnce unescape valueOf runs relations hasRelation writtenValue
-slips-hold = rows-hold slips refl
+unfolding isBlank isDigit isLetter isToken isPlain isEscapable isTarget isHex isOlder fold sameFolded nameOf codeOf isOnce unescape valueOf runs relations hasRelation writtenValue
+slips-hold Rfc8288 = rows-hold Rfc8288 slips refl
+slips-hold Rfc5988 = rows-hold Rfc5988 slips refl
 
--- both tables are usable: their records are those of a reading
-third-usable : Usable third
-unfolding isBlank isDigit isLetter isToken isPlain isEscapable isTarget isHex fold nameOf codeOf isOnce
-third-usable =
-    recorded-known (third .text) (third .linkSlots) (third .paramSlots) (leb-true (length (third .text)) limit refl) refl .usable
+pub older-hold : OlderHold
+unfolding isBlank isDigit isLetter isToken isPlain isEscapable isTarget isHex isOlder fold sameFolded nameOf codeOf isOnce unescape valueOf runs relations hasRelation writtenValue
+older-hold = record { in-older = rows-hold Rfc5988 older refl; in-newer = rows-hold Rfc8288 olderRefused refl }
 
-fifth-usable : Usable fifth
-unfolding isBlank isDigit isLetter isToken isPlain isEscapable isTarget isHex fold nameOf codeOf isOnce
-fifth-usable =
-    recorded-known (fifth .text) (fifth .linkSlots) (fifth .paramSlots) (leb-true (length (fifth .text)) limit refl) refl .usable
+-- tables are usable whose records are those of a reading
+third-usable : (e : Edition) → Usable e third
+unfolding isBlank isDigit isLetter isToken isPlain isEscapable isTarget isHex isOlder fold nameOf codeOf isOnce
+third-usable Rfc8288 =
+    recorded-known Rfc8288 (third .text) (third .linkSlots) (third .paramSlots) (leb-true (length (third .text)) limit refl) refl .may-use
+third-usable Rfc5988 =
+    recorded-known Rfc5988 (third .text) (third .linkSlots) (third .paramSlots) (leb-true (length (third .text)) limit refl) refl .may-use
 
-pub lookups-hold : LookupsHold
+fifth-usable : (e : Edition) → Usable e fifth
+unfolding isBlank isDigit isLetter isToken isPlain isEscapable isTarget isHex isOlder fold nameOf codeOf isOnce
+fifth-usable Rfc8288 =
+    recorded-known Rfc8288 (fifth .text) (fifth .linkSlots) (fifth .paramSlots) (leb-true (length (fifth .text)) limit refl) refl .may-use
+fifth-usable Rfc5988 =
+    recorded-known Rfc5988 (fifth .text) (fifth .linkSlots) (fifth .paramSlots) (leb-true (length (fifth .text)) limit refl) refl .may-use
+
+mirror-usable : Usable Rfc5988 mirror
+unfolding isBlank isDigit isLetter isToken isPlain isEscapable isTarget isHex isOlder fold nameOf codeOf isOnce
+mirror-usable =
+    recorded-known Rfc5988 (mirror .text) (mirror .linkSlots) (mirror .paramSlots) (leb-true (length (mirror .text)) limit refl) refl .may-use
+
+pub lookups-hold : (e : Edition) → LookupsHold e
 unfolding fold nameOf unescape valueOf
-lookups-hold =
+lookups-hold e =
     record {
-      anchored = λ base. anchored third-usable (omega arith) refl;
-      copied-first = λ out h. copied third-usable (omega arith) (omega arith) h;
-      copied-second = λ out h. copied third-usable (omega arith) (omega arith) h;
-      no-third = λ out. no-such-param third-usable (omega arith) (omega arith);
-      no-second = λ base. no-such-link third-usable (omega arith);
-      unanchored = λ base. unanchored fifth-usable (omega arith) refl;
+      anchored = λ base. known {e = e} refl (usable (third-usable e) (anchored (omega arith) refl));
+      copied-first = λ out h. known {e = e} refl (usable (third-usable e) (copied (omega arith) (omega arith) h));
+      copied-second = λ out h. known {e = e} refl (usable (third-usable e) (copied (omega arith) (omega arith) h));
+      no-third = λ out. known {e = e} refl (usable (third-usable e) (no-such-param (omega arith) (omega arith)));
+      no-second = λ base. known {e = e} refl (usable (third-usable e) (no-such-link (omega arith)));
+      unanchored = λ base. known {e = e} refl (usable (fifth-usable e) (unanchored (omega arith) refl));
     }
 
-pub premise-needed : PremiseNeeded
-unfolding isBlank isDigit isLetter isToken isPlain isEscapable isTarget isHex
-premise-needed =
+-- without further octets no value has form 3
+mirror-bad : Good (further Rfc8288) mirror → ⊥
+mirror-bad g = go (head-of (head-of (g .links) .params) .value)
+  where
+    go : GoodValue (further Rfc8288) (mirror .text) (paramAt (mirror .paramSlots) 0) → ⊥
+    go (no-value f a b) = omega (arith, f)
+    go (token-value f t) = omega (arith, f)
+    go (quoted-value f t) = omega (arith, f)
+    go (wider-value f (from-token t x r)) = false≢true (x .is)
+
+pub mirror-holds : MirrorHolds
+unfolding fold nameOf unescape valueOf
+mirror-holds =
+    let short : length (mirror .text) ≤ limit = leb-true (length (mirror .text)) limit refl in
     record {
-      first = unread-malformed rfc8288 admissible8288 (octets "<a>;t=\"b") refl;
-      second = unread-malformed rfc8288 admissible8288 (octets "c\"") refl;
+      anchored = λ base. known {e = Rfc5988} refl (usable mirror-usable (anchored (omega arith) refl));
+      copied = λ out h. known {e = Rfc5988} refl (usable mirror-usable (copied (omega arith) (omega arith) h));
+      no-context = λ base. known {e = Rfc8288} refl (refused (not-good short mirror-bad));
+      no-copy = λ out. known {e = Rfc8288} refl (refused (not-good short mirror-bad));
+    }
+
+pub premise-needed : (e : Edition) → PremiseNeeded e
+unfolding isBlank isDigit isLetter isToken isPlain isEscapable isTarget isHex isOlder
+premise-needed Rfc8288 =
+    record {
+      first = unread-malformed (further Rfc8288) (apart Rfc8288) (octets "<a>;t=\"b") refl;
+      second = unread-malformed (further Rfc8288) (apart Rfc8288) (octets "c\"") refl;
       links = _;
-      joined = read-reading rfc8288 admissible8288 (octets "<a>;t=\"b,c\"") _ refl;
+      joined = read-reading (further Rfc8288) (apart Rfc8288) (octets "<a>;t=\"b,c\"") _ refl;
+    }
+premise-needed Rfc5988 =
+    record {
+      first = unread-malformed (further Rfc5988) (apart Rfc5988) (octets "<a>;t=\"b") refl;
+      second = unread-malformed (further Rfc5988) (apart Rfc5988) (octets "c\"") refl;
+      links = _;
+      joined = read-reading (further Rfc5988) (apart Rfc5988) (octets "<a>;t=\"b,c\"") _ refl;
     }

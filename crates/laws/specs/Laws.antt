@@ -4,19 +4,22 @@ use mathlib.Core.Path.{refl}
 use mathlib.Core.List.{List, [], _∷_}
 use lib.ListN.{length}
 use Rattle.octets.specs.Text.{octets}
+use Rattle.octets.specs.Editions.{numberOf, further}
+use Rattle.octets.specs.declared.editions.Edition.{Edition}
+use Rattle.octets.specs.declared.editions.Edition.the-variants.{Rfc8288, Rfc5988}
 use Rattle.grammar.specs.Link.{Link}
-use Rattle.grammar.specs.Grammar.{rfc8288}
 use Rattle.grammar.specs.Kept.{Reading}
 use Rattle.grammar.specs.Place.{Malformed}
 use Rattle.grammar.specs.Join.{Padded, join}
 use Rattle.tables.specs.Good.{Each}
 use Rattle.tables.specs.Table.{Table}
-use Rattle.outcomes.specs.Number.{done, noSuchLink, notFound}
+use Rattle.outcomes.specs.Number.{done, badTable, noSuchLink, notFound}
 use Rattle.outcomes.specs.Context.{of-text, of-base, nothing, Context}
 use Rattle.outcomes.specs.Copy.{untouched, holding, Copy}
 use Rattle.laws.specs.Row.{recordedTable, RowHolds}
 use Rattle.laws.specs.Marked.{marked}
 use Rattle.laws.specs.Slips.{slips}
+use Rattle.laws.specs.Older.{older, olderRefused}
 
 abbrev pub third : Table
 third =
@@ -26,33 +29,52 @@ third =
 abbrev pub fifth : Table
 fifth = recordedTable (octets "<a>;REL=Next;rel=prev") (1 ∷ 2 ∷ 0 ∷ 1 ∷ []) (4 ∷ 7 ∷ 8 ∷ 12 ∷ 1 ∷ [])
 
--- every marked header is as it was read by hand
-abbrev pub MarkedHold : Type 0
-MarkedHold = Each RowHolds marked
+-- a table of the older edition
+abbrev pub mirror : Table
+mirror =
+    recordedTable (octets "<a>;anchor=/b;rel=http://c/d") (1 ∷ 2 ∷ 0 ∷ 2 ∷ [])
+    (4 ∷ 10 ∷ 11 ∷ 13 ∷ 3 ∷ 14 ∷ 17 ∷ 18 ∷ 28 ∷ 3 ∷ [])
 
--- so is every header at which readers elsewhere slip
+-- every marked header is as it was read by hand, in RFC 8288's edition
+abbrev pub MarkedHold : Type 0
+MarkedHold = Each (RowHolds Rfc8288) marked
+
+-- so is every header at which readers elsewhere slip, in each edition
 abbrev pub SlipsHold : Type 0
-SlipsHold = Each RowHolds slips
+SlipsHold = (e : Edition) → Each (RowHolds e) slips
+
+-- and so are those that the editions read otherwise
+pub record OlderHold : Type 0 where
+  pub in-older : Each (RowHolds Rfc5988) older
+  pub in-newer : Each (RowHolds Rfc8288) olderRefused
 
 -- Of the third marked header: the context of its link is the `anchor` value as written, and its values are copied with their octets
--- alone. Of the fifth: a link without `anchor` has the whole base.
-pub record LookupsHold : Type 0 where
+-- alone. Of the fifth: a link without `anchor` has the whole base. So in each edition.
+pub record LookupsHold (e : Edition) : Type 0 where
   pub anchored : (base : List ℕ)
-      → Context third base 0 (record { number = done; source = of-text; start = 35; end = 39 })
-  pub copied-first : (out : List ℕ) → 9 ≤ length out → Copy third 0 0 out (holding out (octets "copyright"))
-  pub copied-second : (out : List ℕ) → 4 ≤ length out → Copy third 0 1 out (holding out (octets "#foo"))
-  pub no-third : (out : List ℕ) → Copy third 0 2 out (untouched out notFound)
-  pub no-second : (base : List ℕ) → Context third base 1 (nothing noSuchLink)
+      → Context (numberOf e) third base 0 (record { number = done; source = of-text; start = 35; end = 39 })
+  pub copied-first : (out : List ℕ) → 9 ≤ length out → Copy (numberOf e) third 0 0 out (holding out (octets "copyright"))
+  pub copied-second : (out : List ℕ) → 4 ≤ length out → Copy (numberOf e) third 0 1 out (holding out (octets "#foo"))
+  pub no-third : (out : List ℕ) → Copy (numberOf e) third 0 2 out (untouched out notFound)
+  pub no-second : (base : List ℕ) → Context (numberOf e) third base 1 (nothing noSuchLink)
   pub unanchored : (base : List ℕ)
-      → Context fifth base 0 (record { number = done; source = of-base; start = 0; end = length base })
+      → Context (numberOf e) fifth base 0 (record { number = done; source = of-base; start = 0; end = length base })
+
+-- Of a table with values of form 3: the older edition hands out their octets as they stand, and in RFC 8288's the table is not good.
+pub record MirrorHolds : Type 0 where
+  pub anchored : (base : List ℕ)
+      → Context (numberOf Rfc5988) mirror base 0 (record { number = done; source = of-text; start = 11; end = 13 })
+  pub copied : (out : List ℕ) → 10 ≤ length out → Copy (numberOf Rfc5988) mirror 0 1 out (holding out (octets "http://c/d"))
+  pub no-context : (base : List ℕ) → Context (numberOf Rfc8288) mirror base 0 (nothing badTable)
+  pub no-copy : (out : List ℕ) → Copy (numberOf Rfc8288) mirror 0 1 out (untouched out badTable)
 
 -- a header with nothing before and after it
 abbrev pub bare : List ℕ → Padded
 bare h = record { left = []; header = h; right = []; left-blank = refl; right-blank = refl }
 
--- the joining law needs its premise: `<a>;t="b` and `c"` are malformed, and their join is not
-pub record PremiseNeeded : Type 0 where
-  pub first : Malformed rfc8288 (octets "<a>;t=\"b")
-  pub second : Malformed rfc8288 (octets "c\"")
+-- the joining law needs its premise, in each edition: `<a>;t="b` and `c"` are malformed, and their join is not
+pub record PremiseNeeded (e : Edition) : Type 0 where
+  pub first : Malformed (further e) (octets "<a>;t=\"b")
+  pub second : Malformed (further e) (octets "c\"")
   pub links : List Link
-  pub joined : Reading rfc8288 (join (bare (octets "<a>;t=\"b") ∷ bare (octets "c\"") ∷ [])) links
+  pub joined : Reading (further e) (join (bare (octets "<a>;t=\"b") ∷ bare (octets "c\"") ∷ [])) links

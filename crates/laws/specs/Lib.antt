@@ -2,6 +2,7 @@
 pub mod Row
 pub mod Marked
 pub mod Slips
+pub mod Older
 pub mod Answers
 pub mod Feedings
 pub mod Laws

@@ -1,7 +1,9 @@
--- What is said of one header that was read by hand, and when that holds.
+-- What is said of one header that was read by hand, and when that holds in an edition.
 use Prim.Native.Nat.{ℕ, _/_, _≤_}
 use mathlib.Core.List.{List, [], _∷_, _++_}
 use lib.ListN.{length, drop}
+use Rattle.octets.specs.Editions.{numberOf}
+use Rattle.octets.specs.declared.editions.Edition.{Edition}
 use Rattle.grammar.specs.Records.{linkWidth, paramWidth, linkRoom, paramRoom}
 use Rattle.tables.specs.Table.{Table}
 use Rattle.tables.specs.Good.{Each}
@@ -31,28 +33,29 @@ abbrev pub recordedTable : List ℕ → List ℕ → List ℕ → Table
 recordedTable h ls ps =
     record { text = h; linkSlots = ls; paramSlots = ps; linkCount = length ls / linkWidth; paramCount = length ps / paramWidth }
 
-abbrev pub Writes : Table → Writing → Type 0
-Writes t (writes f) = (out : List ℕ) → length f ≤ length out → Write t out (holding out f)
-Writes t (answers n) = (out : List ℕ) → Write t out (untouched out n)
+module _ (e : Edition) where
+  abbrev pub Writes : Table → Writing → Type 0
+  Writes t (writes f) = (out : List ℕ) → length f ≤ length out → Write (numberOf e) t out (holding out f)
+  Writes t (answers n) = (out : List ℕ) → Write (numberOf e) t out (untouched out n)
 
--- in any tables with room reading fills in the records, and leaves the slots behind them as they were
-pub record ReadHolds (h ls ps : List ℕ) (qs : List (List ℕ)) (w : Writing) : Type 0 where
-  pub fills : (L P : List ℕ) → length ls / linkWidth ≤ linkRoom L → length ps / paramWidth ≤ paramRoom P
-      → Read h L P
-      (record {
-        number = done;
-        place = 0;
-        links = length ls / linkWidth;
-        params = length ps / paramWidth;
-        linkSlots = ls ++ drop (length ls) L;
-        paramSlots = ps ++ drop (length ps) P;
-      })
-  pub has : Each (λ (q : List ℕ). Search (recordedTable h ls ps) q (record { number = done; link = 0 })) qs
-  pub writing : Writes (recordedTable h ls ps) w
+  -- in any tables with room reading fills in the records, and leaves the slots behind them as they were
+  pub record ReadHolds (h ls ps : List ℕ) (qs : List (List ℕ)) (w : Writing) : Type 0 where
+    pub fills : (L P : List ℕ) → length ls / linkWidth ≤ linkRoom L → length ps / paramWidth ≤ paramRoom P
+        → Read (numberOf e) h L P
+        (record {
+          number = done;
+          place = 0;
+          links = length ls / linkWidth;
+          params = length ps / paramWidth;
+          linkSlots = ls ++ drop (length ls) L;
+          paramSlots = ps ++ drop (length ps) P;
+        })
+    pub has : Each (λ (q : List ℕ). Search (numberOf e) (recordedTable h ls ps) q (record { number = done; link = 0 })) qs
+    pub writing : Writes (recordedTable h ls ps) w
 
-abbrev pub Judged : List ℕ → Judgement → Type 0
-Judged h (reads ls ps qs w) = ReadHolds h ls ps qs w
-Judged h (malformed k) = (L P : List ℕ) → Read h L P (refused L P malformedHeader k)
+  abbrev pub Judged : List ℕ → Judgement → Type 0
+  Judged h (reads ls ps qs w) = ReadHolds h ls ps qs w
+  Judged h (malformed k) = (L P : List ℕ) → Read (numberOf e) h L P (refused L P malformedHeader k)
 
-abbrev pub RowHolds : Row → Type 0
-RowHolds r = Judged (r .header) (r .judgement)
+  abbrev pub RowHolds : Row → Type 0
+  RowHolds r = Judged (r .header) (r .judgement)

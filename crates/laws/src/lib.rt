@@ -1,8 +1,9 @@
 // Laws over all the definitions, held by the gate: each function promises one statement of specs/ and does nothing.
-ghost use Rattle.laws.specs.Laws.{MarkedHold, SlipsHold, LookupsHold, PremiseNeeded};
-ghost use Rattle.laws.specs.Answers.{JoinAnswers, JoinRefuses, BackAnswers, WrittenApart};
+ghost use Rattle.octets.specs.declared.editions.Edition.{Edition};
+ghost use Rattle.laws.specs.Laws.{MarkedHold, SlipsHold, OlderHold, LookupsHold, MirrorHolds, PremiseNeeded};
+ghost use Rattle.laws.specs.Answers.{JoinAnswers, JoinRefuses, BackAnswers, WrittenApart, ReadsAlike, TablesAlike};
 ghost use Rattle.laws.specs.Feedings.{FinishReads, CutsDontMatter, FinishAgain, CutShortFinishes, FeedAnswers, FeedTells};
-ghost use Rattle.laws.specs.Feedings.{PlaceStays, TooLongForGood, OneAnswer};
+ghost use Rattle.laws.specs.Feedings.{PlaceStays, TooLongForGood, OneAnswer, UnknownForGood};
 
 // The twelve marked headers are as they were read by hand.
 pub fn marked_hold()
@@ -14,14 +15,24 @@ pub fn slips_hold()
     ensures { λ _. ⌜ SlipsHold ⌝ }
 {}
 
+// So are headers that the editions read otherwise.
+pub fn older_hold()
+    ensures { λ _. ⌜ OlderHold ⌝ }
+{}
+
 // Contexts and copied values of two marked headers.
 pub fn lookups_hold()
-    ensures { λ _. ⌜ LookupsHold ⌝ }
+    ensures { λ _. ⌜ ((e : Edition) → LookupsHold e) ⌝ }
+{}
+
+// A context and a copied value of the older edition, which RFC 8288's refuses.
+pub fn mirror_holds()
+    ensures { λ _. ⌜ MirrorHolds ⌝ }
 {}
 
 // Two malformed headers may join to one that is not.
 pub fn premise_needed()
-    ensures { λ _. ⌜ PremiseNeeded ⌝ }
+    ensures { λ _. ⌜ ((e : Edition) → PremiseNeeded e) ⌝ }
 {}
 
 // A join of accepted headers, read in room for the sums of their counts, answers 0, the sums and their records, raised.
@@ -34,7 +45,7 @@ pub fn join_refuses()
     ensures { λ _. ⌜ JoinRefuses ⌝ }
 {}
 
-// What is written for an accepted table reads, in room for its counts, to the same counts and an equal list of link meanings.
+// What is written for an accepted table reads, in every edition and in room for its counts, to the same counts and an equal list of link meanings.
 pub fn back_answers()
     ensures { λ _. ⌜ BackAnswers ⌝ }
 {}
@@ -42,6 +53,16 @@ pub fn back_answers()
 // Tables that differ in meaning never share their octets.
 pub fn written_apart()
     ensures { λ _. ⌜ WrittenApart ⌝ }
+{}
+
+// Whatever RFC 8288's edition doesn't find malformed, the older one answers alike.
+pub fn reads_alike()
+    ensures { λ _. ⌜ ReadsAlike ⌝ }
+{}
+
+// Whatever table it doesn't find bad, the older one answers alike of it.
+pub fn tables_alike()
+    ensures { λ _. ⌜ TablesAlike ⌝ }
 {}
 
 // From a start, feeds of any parts and the finish answer what reading answers of all their octets.
@@ -81,10 +102,15 @@ pub fn place_stays()
 
 // Behind a feed that answers 1, every feed and the finish answer 1.
 pub fn too_long_for_good()
-    ensures { λ _. ⌜ TooLongForGood ⌝ }
+    ensures { λ _. ⌜ ((e : Edition) → TooLongForGood e) ⌝ }
 {}
 
 // What a feed and the finish answer and leave is settled.
 pub fn one_answer()
     ensures { λ _. ⌜ OneAnswer ⌝ }
+{}
+
+// Behind a start with a number that is no edition's, feeds leave the state as it was started.
+pub fn unknown_for_good()
+    ensures { λ _. ⌜ UnknownForGood ⌝ }
 {}

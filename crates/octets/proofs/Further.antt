@@ -38,3 +38,9 @@ older-no-token c h = not-so (isToken c) (within isOlder (λ k. not (isToken k)) 
 pub older-plain : (c : ℕ) → isOlder c ≡ true → isPlain c ≡ true
 unfolding isOlder isPlain
 older-plain = within isOlder isPlain older-octet refl
+
+-- in no edition may a backslash stand in a bare value
+pub no-backslash : (e : Edition) → further e 92 ≡ false
+unfolding isOlder
+no-backslash Rfc8288 = refl
+no-backslash Rfc5988 = refl
