@@ -14,6 +14,7 @@ use Rattle.answers.specs.declared.Refusal.the-variants.{
   NoOutputRoom,
   NoSuchLink,
   NotFound,
+  UnknownEdition,
 }
 
 pub no-refusal-is-done : (w : Refusal) → eqb (refusalNumber w) done ≡ false
@@ -25,3 +26,4 @@ no-refusal-is-done NoRelation = refl
 no-refusal-is-done NoOutputRoom = refl
 no-refusal-is-done NoSuchLink = refl
 no-refusal-is-done NotFound = refl
+no-refusal-is-done UnknownEdition = refl

@@ -11,6 +11,7 @@ use Rattle.answers.specs.declared.Refusal.the-variants.{
   NoOutputRoom,
   NoSuchLink,
   NotFound,
+  UnknownEdition,
 }
 
 abbrev pub refusalNumber : Refusal → ℕ
@@ -22,3 +23,4 @@ refusalNumber NoRelation = number.noRelation
 refusalNumber NoOutputRoom = number.noOutputRoom
 refusalNumber NoSuchLink = number.noSuchLink
 refusalNumber NotFound = number.notFound
+refusalNumber UnknownEdition = number.unknownEdition

@@ -1,2 +1,3 @@
--- The laws of a move past a run, over any set of octets, and of a look at one octet.
+-- The laws of a move past a run, over any set of octets, of a look at one octet, and of what a bare value holds.
 pub mod RunSoFar
+pub mod BareRun

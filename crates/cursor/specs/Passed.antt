@@ -14,6 +14,11 @@ pub record Passed (f : ℕ → Bool) (s : List ℕ) (a e : ℕ) : Type 0 where
   pub run : Run s f a e
   pub stops : e < length s → f (getD s e 0) ≡ false
 
+-- the place e lies in the text or at its end, and no octet of the set f stands there
+pub record Ended (f : ℕ → Bool) (s : List ℕ) (e : ℕ) : Type 0 where
+  pub inside : e ≤ length s
+  pub stops : e < length s → f (getD s e 0) ≡ false
+
 -- what a look for the octet c at place i tells
 pub record Looked (s : List ℕ) (i c : ℕ) (r : Bool) : Type 0 where
   pub yes : r ≡ true → At s i c

@@ -3,8 +3,10 @@ ghost use mathlib.Core.Path.{_≡_};
 ghost use Prim.Native.Nat.{_+_, _≤_, _<_};
 ghost use lib.ListN.{length};
 ghost use Rattle.octets.specs.Sets.{isBlank, isToken, isPlain, isTarget};
+ghost use Rattle.octets.specs.Editions.{further};
 ghost use Rattle.octets.specs.Member.{isIn};
-ghost use Rattle.cursor.specs.Passed.{Passed, Looked, LookedIn};
+ghost use Rattle.grammar.specs.Grammar.{isBare};
+ghost use Rattle.cursor.specs.Passed.{Passed, Ended, Looked, LookedIn};
 use kinds::Place;
 use kinds::Span;
 use octets::editions::Edition;
@@ -94,7 +96,7 @@ impl Cursor {
 
     // Past what a value without quotes holds behind its token octets: in the older edition a run that begins with a further octet.
     pub fn past_further(self, s: &[u8], edition: Edition) -> Cursor
-        requires { ⌜ Behind isToken (now s) (self .at .0) ⌝ }
+        requires { ⌜ Ended isToken (now s) (self .at .0) ⌝ }
         ensures { λ r. ⌜ Passed (isBare (further edition)) (now (s .entry)) (self .at .0) (r .at .0) ⌝ }
     {
         match edition {

@@ -57,7 +57,6 @@ isOlder c = oneOf (octets "()/:<=>?@[]{}") c
 
 -- an octet of a ptoken
 unfoldable pub isPtoken : ℕ → Bool
-unfolding isToken isOlder
 isPtoken c = isToken c || isOlder c
 
 -- a hex digit of either case
