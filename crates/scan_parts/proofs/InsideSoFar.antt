@@ -8,7 +8,7 @@ use mathlib.Core.List.{List}
 use lib.ListN.{length, getD}
 use borrow.Author.Tests.{not-true, not-false}
 use Rattle.octets.specs.Sets.{isPlain, isEscapable}
-use Rattle.grammar.specs.Grammar.{rfc8288, At, In, Run, run-end, run-more, Inside, inside-end, plain, pair}
+use Rattle.grammar.specs.Grammar.{Extra, At, In, Run, run-end, run-more, Inside, inside-end, plain, pair}
 use Rattle.grammar.proofs.Classes.{plain-not-quote, plain-not-backslash}
 use Rattle.grammar.specs.Machine.{quote, escape, Open}
 use Rattle.cursor.specs.Passed.{Passed, Looked, LookedIn}
@@ -35,7 +35,8 @@ module _ {s : List ℕ} where
   inside-append (plain c t) u = plain c (inside-append t u)
   inside-append (pair b c t) u = pair b c (inside-append t u)
 
-  pub inside-stands : {a k : ℕ} (o : Open) (n e v : ℕ) → Inside s a k → Stands s (quote o n e v) a → Stands s (quote o n e v) k
+  pub inside-stands : {extra : Extra} {a k : ℕ} (o : Open) (n e v : ℕ) → Inside s a k → Stands extra s (quote o n e v) a
+      → Stands extra s (quote o n e v) k
   inside-stands o n e v inside-end p = p
   inside-stands o n e v (plain c t) p =
       inside-stands o n e v t
@@ -75,9 +76,9 @@ module _ {s : List ℕ} where
     pub no-pair : not r ≡ true → InsideScanned s a (Stuck (record { 0 = j }))
     no-pair w =
         no-quote
-        (λ o n e v p.
+        (λ extra o n e v p.
         halts
-        (subst (Stands s (escape o n e v)) (sym (k ∙ add-one i))
+        (subst (Stands extra s (escape o n e v)) (sym (k ∙ add-one i))
         (stands-on (escape o n e v) (inside-stands o n e v (g .derived) p) (q .inside) (rw (q .is)))) refl refl
         (λ h. rw (u .not (not-true r w) h)))
 
@@ -85,5 +86,5 @@ module _ {s : List ℕ} where
       → InsideScanned s a (Stuck (record { 0 = i }))
   no-octet {y = y} g l x k f =
       no-quote
-      (λ o n e v p.
+      (λ extra o n e v p.
       halts (inside-stands o n e v (g .derived) p) refl refl (λ h. rw (l .not x h, k .not (not-true y f) h, g .stops h)))

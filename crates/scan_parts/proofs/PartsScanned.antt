@@ -4,7 +4,7 @@ use mathlib.Core.Path.{_≡_, refl, sym, subst}
 use mathlib.Core.List.{List}
 use lib.ListN.{length}
 use Rattle.octets.specs.Sets.{isBlank, isToken}
-use Rattle.grammar.specs.Grammar.{At}
+use Rattle.grammar.specs.Grammar.{Extra, At}
 use Rattle.kinds.specs.declared.Place.{Place}
 use Rattle.kinds.specs.declared.Span.{Span}
 use Rattle.records.specs.declared.ParamRecord.{ParamRecord}
@@ -29,38 +29,38 @@ use Rattle.scan_parts.proofs.ReadyBehindValue.{first-of, quote-starts}
 use Rattle.scan_parts.proofs.ReadyBehindParam.{equals-reached}
 use Rattle.scan_parts.proofs.PassedIsParsed.{FromTo, quoted-parsed, valued-parsed}
 
-module _ {s : List ℕ} where
+pub quote-inside : {s : List ℕ} {j : ℕ} {c : Cursor} {r : Scan} → InsideScanned s j r → r ≡ Past c → c .at .0 < length s
+quote-inside {s} {j} i e = go (subst (InsideScanned s j) e i)
+  where
+    go : {c : Cursor} → InsideScanned s j (Past c) → c .at .0 < length s
+    go (unquoted t z) = z .inside
+
+module _ {extra : Extra} {s : List ℕ} where
   -- ---- the inside of a quoted string
 
   module _ {v j : ℕ} {r : Scan} {name : Span} (q : At s v 34) (k : j ≡ v + 1) (i : InsideScanned s j r) where
-    pub quote-stuck : {p : Place} → r ≡ Stuck p → ValueScanned s name v (NoParam p)
+    pub quote-stuck : {p : Place} → r ≡ Stuck p → ValueScanned extra s name v (NoParam p)
     quote-stuck e = go (subst (InsideScanned s j) e i)
       where
-        go : {p : Place} → InsideScanned s j (Stuck p) → ValueScanned s name v (NoParam p)
-        go (no-quote f) = no-value (λ o n e p. f o n e (suc v) (quote-starts q k o n e p))
+        go : {p : Place} → InsideScanned s j (Stuck p) → ValueScanned extra s name v (NoParam p)
+        go (no-quote f) = no-value (λ o n e p. f extra o n e (suc v) (quote-starts q k o n e p))
 
     pub quote-passed : {a : Span} {c d : Cursor} → r ≡ Past c → FromTo a j (c .at .0) → d .at .0 ≡ c .at .0 + 1
-        → ValueScanned s name v (Param (record { name = name; value = a; form = 2 }) d)
+        → ValueScanned extra s name v (Param (record { name = name; value = a; form = 2 }) d)
     quote-passed {a} {c} {d} e w n = go (subst (InsideScanned s j) e i)
       where
-        go : InsideScanned s j (Past c) → ValueScanned s name v (Param (record { name = name; value = a; form = 2 }) d)
+        go : InsideScanned s j (Past c) → ValueScanned extra s name v (Param (record { name = name; value = a; form = 2 }) d)
         go (unquoted t z) = a-value refl (quoted-parsed {a = a} q k t z w n)
-
-  pub quote-inside : {j : ℕ} {c : Cursor} {r : Scan} → InsideScanned s j r → r ≡ Past c → c .at .0 < length s
-  quote-inside {j} i e = go (subst (InsideScanned s j) e i)
-    where
-      go : {c : Cursor} → InsideScanned s j (Past c) → c .at .0 < length s
-      go (unquoted t z) = z .inside
 
   -- ---- a value
 
   pub value-scanned : {a e k j v : ℕ} {name : Span} {u : ParamScan} → Passed isToken s a e → (e ≡ a → ⊥) → Passed isBlank s e k
-      → FromTo name a e → At s k 61 → j ≡ k + 1 → Passed isBlank s j v → ValueScanned s name v u → ParamScanned s a u
+      → FromTo name a e → At s k 61 → j ≡ k + 1 → Passed isBlank s j v → ValueScanned extra s name v u → ParamScanned extra s a u
   value-scanned {a} {e} {v = v} {name = name} t n b x q m w i = go i
     where
       named : (r : ParamRecord) → r .name ≡ name → FromTo (r .name) a e
       named r y = subst (λ (z : Span). FromTo z a e) (sym y) x
 
-      go : {u : ParamScan} → ValueScanned s name v u → ParamScanned s a u
+      go : {u : ParamScan} → ValueScanned extra s name v u → ParamScanned extra s a u
       go (no-value f) = no-param (λ o p. f o a e (equals-reached o (first-of t n) t b q m w p))
       go (a-value {r = r} y h) = a-param (valued-parsed {r = r} t n b (named r y) q m w h (refl, refl) refl)

@@ -10,94 +10,94 @@ use mathlib.Core.Option.{none, some}
 use lib.ListN.{length, take, drop, getD, take-append-drop}
 use lib.Seq.{take-suc, take-length, length-take-le}
 use Rattle.grammar.specs.Link.{Link}
-use Rattle.grammar.specs.Grammar.{rfc8288, Run, run-end, run-more, Field}
+use Rattle.grammar.specs.Grammar.{Extra, Admissible, Run, run-end, run-more, Field}
 use Rattle.grammar.specs.Machine.{State, gap, dead, step, run, settle, inOrder}
-use Rattle.grammar.proofs.Editions.{admissible8288}
 use Rattle.grammar.proofs.Exact.{read-derived}
 use Rattle.grammar.proofs.Readings.{unread-malformed}
 use Rattle.grammar.proofs.Prefix.{run-append, isDead, begins-alive, place-at}
 use Rattle.grammar.specs.Place.{MalformedAt}
 use Rattle.scan_parts.specs.Stands.{Stands}
 
-pub stands-start : (s : List ℕ) → Stands s (gap []) 0
-stands-start s = record { inside = omega arith; is = refl }
+pub stands-start : {extra : Extra} → Admissible extra → (s : List ℕ) → Stands extra s (gap []) 0
+stands-start a s = record { apart = a; inside = omega arith; is = refl }
 
-module _ {s : List ℕ} where
+module _ {extra : Extra} {s : List ℕ} where
   -- one octet more
-  pub stands-step : {st : State} {i : ℕ} → Stands s st i → i < length s → Stands s (step rfc8288 st i (getD s i 0)) (suc i)
+  pub stands-step : {st : State} {i : ℕ} → Stands extra s st i → i < length s → Stands extra s (step extra st i (getD s i 0)) (suc i)
   stands-step {st} {i} p h =
       let n : 0 + length (take i s) ≡ i = omega (arith, length-take-le i s (p .inside)) in
       record {
+        apart = p .apart;
         inside = h;
         is =
-            ap (run rfc8288 (gap []) 0) (take-suc s i 0 h)
-            ∙ run-append rfc8288 (take i s) (getD s i 0 ∷ []) (gap []) 0
-            ∙ ap (λ (k : ℕ). step rfc8288 (run rfc8288 (gap []) 0 (take i s)) k (getD s i 0)) n
-            ∙ ap (λ (x : State). step rfc8288 x i (getD s i 0)) (p .is);
+            ap (run extra (gap []) 0) (take-suc s i 0 h)
+            ∙ run-append extra (take i s) (getD s i 0 ∷ []) (gap []) 0
+            ∙ ap (λ (k : ℕ). step extra (run extra (gap []) 0 (take i s)) k (getD s i 0)) n
+            ∙ ap (λ (x : State). step extra x i (getD s i 0)) (p .is);
       }
 
   -- one octet more, which leads to a known state
-  pub stands-on : {st : State} {i : ℕ} (new : State) → Stands s st i → i < length s
-      → step rfc8288 st i (getD s i 0) ≡ new → Stands s new (suc i)
-  stands-on {i = i} new p h e = subst (λ (x : State). Stands s x (suc i)) e (stands-step p h)
+  pub stands-on : {st : State} {i : ℕ} (new : State) → Stands extra s st i → i < length s
+      → step extra st i (getD s i 0) ≡ new → Stands extra s new (suc i)
+  stands-on {i = i} new p h e = subst (λ (x : State). Stands extra s x (suc i)) e (stands-step p h)
 
   -- a run of octets that leave the state
-  pub stands-run : {f : ℕ → Bool} {st : State} {a e : ℕ} → ((i c : ℕ) → f c ≡ true → step rfc8288 st i c ≡ st)
-      → Run s f a e → Stands s st a → Stands s st e
+  pub stands-run : {f : ℕ → Bool} {st : State} {a e : ℕ} → ((i c : ℕ) → f c ≡ true → step extra st i c ≡ st)
+      → Run s f a e → Stands extra s st a → Stands extra s st e
   stands-run stays run-end p = p
   stands-run {st = st} {a = a} stays (run-more c r) p =
       stands-run stays r (stands-on st p (c .inside) (stays a (getD s a 0) (c .is)))
 
   -- the next octet leads nowhere
-  pub halts-at : {st : State} {i : ℕ} → Stands s st i → isDead st ≡ false → i < length s
-      → step rfc8288 st i (getD s i 0) ≡ dead → MalformedAt rfc8288 s i
+  pub halts-at : {st : State} {i : ℕ} → Stands extra s st i → isDead st ≡ false → i < length s
+      → step extra st i (getD s i 0) ≡ dead → MalformedAt extra s i
   halts-at {st} {i} p alive h e =
-      let died : isDead (run rfc8288 (gap []) 0 (take (suc i) s)) ≡ true = ap isDead (stands-on dead p h e .is) in
+      let died : isDead (run extra (gap []) 0 (take (suc i) s)) ≡ true = ap isDead (stands-on dead p h e .is) in
       record {
         malformed =
             λ R f.
             true≢false
             (sym died
-            ∙ begins-alive rfc8288 admissible8288 (take (suc i) s)
+            ∙ begins-alive extra (p .apart) (take (suc i) s)
             (record {
               rest = drop (suc i) s;
               links = R;
-              derived = subst (λ (x : List ℕ). Field rfc8288 x R) (sym (take-append-drop (suc i) s)) f;
+              derived = subst (λ (x : List ℕ). Field extra x R) (sym (take-append-drop (suc i) s)) f;
             }));
         place =
-            place-at rfc8288 admissible8288 s i (p .inside) (ap isDead (p .is) ∙ alive) (inr died);
+            place-at extra (p .apart) s i (p .inside) (ap isDead (p .is) ∙ alive) (inr died);
       }
 
   -- the header ends where it may not
-  pub halts-end : {st : State} {i : ℕ} → Stands s st i → isDead st ≡ false → length s ≤ i → settle st i ≡ none → MalformedAt rfc8288 s i
+  pub halts-end : {st : State} {i : ℕ} → Stands extra s st i → isDead st ≡ false → length s ≤ i → settle st i ≡ none → MalformedAt extra s i
   halts-end {st} {i} p alive h e =
       let w : i ≡ length s = omega (arith, p .inside) in
       let all : take i s ≡ s = ap (λ (k : ℕ). take k s) w ∙ take-length s in
       record {
         malformed =
-            unread-malformed rfc8288 admissible8288 s
+            unread-malformed extra (p .apart) s
             (ap inOrder
-            (ap (λ (x : List ℕ). settle (run rfc8288 (gap []) 0 x) (length s)) (sym all)
+            (ap (λ (x : List ℕ). settle (run extra (gap []) 0 x) (length s)) (sym all)
             ∙ ap (λ (x : State). settle x (length s)) (p .is) ∙ ap (settle st) (sym w) ∙ e));
-        place = place-at rfc8288 admissible8288 s i (p .inside) (ap isDead (p .is) ∙ alive) (inl w);
+        place = place-at extra (p .apart) s i (p .inside) (ap isDead (p .is) ∙ alive) (inl w);
       }
 
   -- no octet that may stand here does
-  pub halts : {st : State} {i : ℕ} → Stands s st i → isDead st ≡ false → settle st i ≡ none
-      → (i < length s → step rfc8288 st i (getD s i 0) ≡ dead) → MalformedAt rfc8288 s i
+  pub halts : {st : State} {i : ℕ} → Stands extra s st i → isDead st ≡ false → settle st i ≡ none
+      → (i < length s → step extra st i (getD s i 0) ≡ dead) → MalformedAt extra s i
   halts {i = i} p alive ends e = go (decLe (length s) i)
     where
-      go : Dec (length s ≤ i) → MalformedAt rfc8288 s i
+      go : Dec (length s ≤ i) → MalformedAt extra s i
       go (yes h) = halts-end p alive h ends
       go (no h) = let l : i < length s = omega arith in halts-at p alive l (e l)
 
   -- the header ends where it may
-  pub finishes : {st : State} {i : ℕ} {ls : List Link} → Stands s st i → length s ≤ i → settle st i ≡ some ls
-      → Field rfc8288 s (reverse ls)
+  pub finishes : {st : State} {i : ℕ} {ls : List Link} → Stands extra s st i → length s ≤ i → settle st i ≡ some ls
+      → Field extra s (reverse ls)
   finishes {st} {i} {ls} p h e =
       let w : i ≡ length s = omega (arith, p .inside) in
       let all : take i s ≡ s = ap (λ (k : ℕ). take k s) w ∙ take-length s in
-      read-derived rfc8288 admissible8288 s
+      read-derived extra (p .apart) s
       (ap inOrder
-      (ap (λ (x : List ℕ). settle (run rfc8288 (gap []) 0 x) (length s)) (sym all)
+      (ap (λ (x : List ℕ). settle (run extra (gap []) 0 x) (length s)) (sym all)
       ∙ ap (λ (x : State). settle x (length s)) (p .is) ∙ ap (settle st) (sym w) ∙ e))

@@ -9,7 +9,7 @@ use lib.ListN.{length, getD}
 use borrow.Author.Tests.{not-true}
 use Rattle.octets.specs.Sets.{isTarget, isHex}
 use Rattle.grammar.specs.Link.{Link}
-use Rattle.grammar.specs.Grammar.{At, In, Run, run-end, run-more, Target, target-end, octet, triple}
+use Rattle.grammar.specs.Grammar.{Extra, At, In, Run, run-end, run-more, Target, target-end, octet, triple}
 use Rattle.grammar.specs.Machine.{target, percent, hex}
 use Rattle.cursor.specs.Passed.{Passed, Looked}
 use Rattle.kinds.specs.declared.Place.{Place}
@@ -37,7 +37,8 @@ module _ {s : List ℕ} where
   target-append (octet c t) u = octet c (target-append t u)
   target-append (triple p x y t) u = triple p x y (target-append t u)
 
-  pub target-stands : {a e : ℕ} (ls : List Link) (b : ℕ) → Target s a e → Stands s (target ls b) a → Stands s (target ls b) e
+  pub target-stands : {extra : Extra} {a e : ℕ} (ls : List Link) (b : ℕ) → Target s a e → Stands extra s (target ls b) a
+      → Stands extra s (target ls b) e
   unfolding isTarget
   target-stands ls b target-end p = p
   target-stands ls b (octet c t) p = target-stands ls b t (stands-on (target ls b) p (c .inside) (rw (c .is)))
@@ -90,9 +91,9 @@ module _ {s : List ℕ} where
         go : {p : Place} → TripleScanned s j (Stuck p) → TargetScanned s a (Stuck p)
         go (no-digit f) =
             no-target
-            (λ ls b p.
-            f ls b
-            (subst (Stands s (percent ls b)) (sym (k ∙ add-one i))
+            (λ extra ls b p.
+            f extra ls b
+            (subst (Stands extra s (percent ls b)) (sym (k ∙ add-one i))
             (stands-on (percent ls b) (target-stands ls b (g .derived) p) (q .inside) (rw (q .is)))))
 
   -- the cursor behind a triple is in the text
@@ -103,5 +104,5 @@ module _ {s : List ℕ} where
       → TargetScanned s a (Stuck (record { 0 = i }))
   no-octet {y = y} g l e k f =
       no-target
-      (λ ls b p.
+      (λ extra ls b p.
       halts (target-stands ls b (g .derived) p) refl refl (λ h. rw (g .stops h, k .not (not-true y f) h, l .not e h)))

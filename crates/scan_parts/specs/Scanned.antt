@@ -1,4 +1,5 @@
--- What each scan promises of its answer: what it passed, or that the header is malformed there, if the machine stood before it.
+-- What each scan promises of its answer: what it passed, or that the header is malformed there, if the machine stood before it. What
+-- stands in a target or in quotes is the same in every edition.
 use Prim.Native.Nat.{ℕ, suc, _<_}
 use mathlib.Core.Path.{_≡_}
 use mathlib.Core.Bool.{Bool, false}
@@ -6,7 +7,7 @@ use mathlib.Core.List.{List}
 use lib.ListN.{length, getD}
 use Rattle.octets.specs.Sets.{isHex}
 use Rattle.grammar.specs.Link.{Link}
-use Rattle.grammar.specs.Grammar.{rfc8288, At, In, Inside, Target}
+use Rattle.grammar.specs.Grammar.{Extra, At, In, Inside, Target}
 use Rattle.grammar.specs.Place.{MalformedAt}
 use Rattle.grammar.specs.Machine.{target, percent, semi, equals, quote, Open}
 use Rattle.kinds.specs.declared.Place.{Place}
@@ -28,30 +29,30 @@ pub data OneScanned (f : ℕ → Bool) (s : List ℕ) (a : ℕ) : Scan → Type 
 
 -- two hex digits at place a, behind `%`
 pub data TripleScanned (s : List ℕ) (a : ℕ) : Scan → Type 0 where
-  no-digit : {p : Place} → ((ls : List Link) (b : ℕ) → Stands s (percent ls b) a → MalformedAt rfc8288 s (p .0))
+  no-digit : {p : Place} → ((extra : Extra) (ls : List Link) (b : ℕ) → Stands extra s (percent ls b) a → MalformedAt extra s (p .0))
       → TripleScanned s a (Stuck p)
   digits : {c : Cursor} → c .at .0 ≡ suc (suc a) → In s isHex a → In s isHex (suc a) → TripleScanned s a (Past c)
 
 -- a target from place a, and the `>` behind it
 pub data TargetScanned (s : List ℕ) (a : ℕ) : Scan → Type 0 where
-  no-target : {p : Place} → ((ls : List Link) (b : ℕ) → Stands s (target ls b) a → MalformedAt rfc8288 s (p .0))
+  no-target : {p : Place} → ((extra : Extra) (ls : List Link) (b : ℕ) → Stands extra s (target ls b) a → MalformedAt extra s (p .0))
       → TargetScanned s a (Stuck p)
   closed : {c : Cursor} → Target s a (c .at .0) → At s (c .at .0) 62 → TargetScanned s a (Past c)
 
 -- the inside of a quoted string from place a, and the quote behind it
 pub data InsideScanned (s : List ℕ) (a : ℕ) : Scan → Type 0 where
-  no-quote : {p : Place} → ((o : Open) (n e v : ℕ) → Stands s (quote o n e v) a → MalformedAt rfc8288 s (p .0))
+  no-quote : {p : Place} → ((extra : Extra) (o : Open) (n e v : ℕ) → Stands extra s (quote o n e v) a → MalformedAt extra s (p .0))
       → InsideScanned s a (Stuck p)
   unquoted : {c : Cursor} → Inside s a (c .at .0) → At s (c .at .0) 34 → InsideScanned s a (Past c)
 
 -- the value, from place v on, of a parameter of this name
-pub data ValueScanned (s : List ℕ) (name : Span) (v : ℕ) : ParamScan → Type 0 where
-  no-value : {p : Place} → ((o : Open) (n e : ℕ) → Stands s (equals o n e) v → MalformedAt rfc8288 s (p .0))
-      → ValueScanned s name v (NoParam p)
+pub data ValueScanned (extra : Extra) (s : List ℕ) (name : Span) (v : ℕ) : ParamScan → Type 0 where
+  no-value : {p : Place} → ((o : Open) (n e : ℕ) → Stands extra s (equals o n e) v → MalformedAt extra s (p .0))
+      → ValueScanned extra s name v (NoParam p)
   a-value : {r : ParamRecord} {c : Cursor} → r .name ≡ name
-      → ParsedValue s v (r .value .from .0) (r .value .to .0) (r .form) (c .at .0) → ValueScanned s name v (Param r c)
+      → ParsedValue extra s v (r .value .from .0) (r .value .to .0) (r .form) (c .at .0) → ValueScanned extra s name v (Param r c)
 
 -- a parameter from place a on
-pub data ParamScanned (s : List ℕ) (a : ℕ) : ParamScan → Type 0 where
-  no-param : {p : Place} → ((o : Open) → Stands s (semi o) a → MalformedAt rfc8288 s (p .0)) → ParamScanned s a (NoParam p)
-  a-param : {r : ParamRecord} {c : Cursor} → Parsed s a (toParam r) (c .at .0) → ParamScanned s a (Param r c)
+pub data ParamScanned (extra : Extra) (s : List ℕ) (a : ℕ) : ParamScan → Type 0 where
+  no-param : {p : Place} → ((o : Open) → Stands extra s (semi o) a → MalformedAt extra s (p .0)) → ParamScanned extra s a (NoParam p)
+  a-param : {r : ParamRecord} {c : Cursor} → Parsed extra s a (toParam r) (c .at .0) → ParamScanned extra s a (Param r c)

@@ -1,4 +1,5 @@
 // A parameter, behind `;` and blanks.
+ghost use Rattle.octets.specs.Editions.{further};
 ghost use Rattle.scan_parts.specs.Stands.{Clear};
 ghost use Rattle.scan_parts.specs.Scanned.{ParamScanned};
 use crate::ParamScan;

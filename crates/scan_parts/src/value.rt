@@ -1,4 +1,8 @@
 // The value of a parameter, behind `=` and blanks.
+ghost use mathlib.Core.Bool.{cond};
+ghost use mathlib.Core.Path.{_≡_};
+ghost use lib.Dec.{eqb};
+ghost use Rattle.octets.specs.Editions.{further};
 ghost use Rattle.scan_parts.specs.Stands.{Clear};
 ghost use Rattle.scan_parts.specs.Scanned.{ValueScanned};
 use crate::ParamScan;

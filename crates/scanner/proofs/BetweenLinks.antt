@@ -9,7 +9,7 @@ use mathlib.Core.List.{List, [], _∷_, map, reverse, reverseAux}
 use lib.ListN.{length, length-map, length-reverse}
 use Rattle.octets.specs.Sets.{isBlank}
 use Rattle.grammar.specs.Link.{Link}
-use Rattle.grammar.specs.Grammar.{rfc8288, At, Field}
+use Rattle.grammar.specs.Grammar.{Extra, At, Field}
 use Rattle.grammar.specs.Kept.{keptLink}
 use Rattle.grammar.specs.Records.{countParams}
 use Rattle.grammar.specs.Machine.{gap, target}
@@ -37,29 +37,29 @@ pub ordered-count : (s : List ℕ) (ls : List Link) → countParams (ordered s l
 ordered-count s ls =
     ap countParams (sym (map-reverseAux (keptLink s) ls [])) ∙ count-reverse (map (keptLink s) ls) [] ∙ add-zero _
 
-module _ {s : List ℕ} {ls : List Link} where
-  pub gap-blanks : {i j : ℕ} → Stands s (gap ls) i → Passed isBlank s i j → Stands s (gap ls) j
+module _ {extra : Extra} {s : List ℕ} {ls : List Link} where
+  pub gap-blanks : {i j : ℕ} → Stands extra s (gap ls) i → Passed isBlank s i j → Stands extra s (gap ls) j
   gap-blanks g p = stands-run (λ i c q. rw q) (p .run) g
 
-  pub gap-comma : {j k : ℕ} → Stands s (gap ls) j → At s j 44 → k ≡ j + 1 → Stands s (gap ls) k
+  pub gap-comma : {j k : ℕ} → Stands extra s (gap ls) j → At s j 44 → k ≡ j + 1 → Stands extra s (gap ls) k
   unfolding isBlank
-  gap-comma {j} g q e = subst (Stands s (gap ls)) (sym (e ∙ add-one j)) (stands-on (gap ls) g (q .inside) (rw (q .is)))
+  gap-comma {j} g q e = subst (Stands extra s (gap ls)) (sym (e ∙ add-one j)) (stands-on (gap ls) g (q .inside) (rw (q .is)))
 
-  pub target-begins : {j k : ℕ} → Stands s (gap ls) j → At s j 60 → k ≡ j + 1 → Stands s (target ls k) k
+  pub target-begins : {j k : ℕ} → Stands extra s (gap ls) j → At s j 60 → k ≡ j + 1 → Stands extra s (target ls k) k
   unfolding isBlank
   target-begins {j} g q e =
-      subst (λ (x : ℕ). Stands s (target ls x) x) (sym (e ∙ add-one j))
+      subst (λ (x : ℕ). Stands extra s (target ls x) x) (sym (e ∙ add-one j))
       (stands-on (target ls (suc j)) g (q .inside) (rw (q .is)))
 
-  module _ {k d x : ℕ} (w : WholeLink s k d x) (t : Stands s (target ls k) k) where
+  module _ {k d x : ℕ} (w : WholeLink extra s k d x) (t : Stands extra s (target ls k) k) where
     -- the header ends behind the link
-    pub link-last : length s ≤ d → Field rfc8288 s (reverse (linkOf w ∷ ls))
+    pub link-last : length s ≤ d → Field extra s (reverse (linkOf w ∷ ls))
     link-last h = let r = link-ready ls w t in finishes (r .stands) h (r .settles)
 
     -- else a comma stands there
-    pub link-comma : {v : ℕ} → d < length s → v ≡ d + 1 → Stands s (gap (linkOf w ∷ ls)) v
+    pub link-comma : {v : ℕ} → d < length s → v ≡ d + 1 → Stands extra s (gap (linkOf w ∷ ls)) v
     link-comma h e =
-        subst (Stands s (gap (linkOf w ∷ ls))) (sym (e ∙ add-one d)) (ready-comma (link-ready ls w t) (there (w .rest .ends)))
+        subst (Stands extra s (gap (linkOf w ∷ ls))) (sym (e ∙ add-one d)) (ready-comma (link-ready ls w t) (there (w .rest .ends)))
       where
         there : (length s ≤ d) ⊎ At s d 44 → At s d 44
         there (inl g) = absurd (omega arith)

@@ -9,7 +9,7 @@ use lib.ListN.{length}
 use borrow.Author.Tests.{not-true}
 use Rattle.octets.specs.Sets.{isBlank}
 use Rattle.grammar.specs.Link.{Link}
-use Rattle.grammar.specs.Grammar.{At, Field, rfc8288}
+use Rattle.grammar.specs.Grammar.{Extra, Admissible, At, Field}
 use Rattle.grammar.specs.Kept.{keptLink}
 use Rattle.grammar.specs.Records.{countParams}
 use Rattle.grammar.specs.Machine.{gap, target}
@@ -37,18 +37,18 @@ use Rattle.scanner.proofs.BetweenLinks.{
 }
 
 -- at place i, between links, the links held have been read, the last first, and n counts them and their kept parameters
-pub record LinksSoFar (s : List ℕ) (i : ℕ) (n : Counts) : Type 0 where
+pub record LinksSoFar (extra : Extra) (s : List ℕ) (i : ℕ) (n : Counts) : Type 0 where
   pub links : List Link
-  pub stands : Stands s (gap links) i
+  pub stands : Stands extra s (gap links) i
   pub link-count : n .links ≡ length links
   pub param-count : n .params ≡ countParams (map (keptLink s) links)
   pub few-links : n .links ≤ i
   pub few-params : n .params ≤ i
 
 -- a header that ends with these links read has their counts
-counts : (s : List ℕ) (ls : List Link) {n : Counts} → Field rfc8288 s (reverse ls) → n .links ≡ length ls
-    → n .params ≡ countParams (map (keptLink s) ls) → HeaderScanned s (Counted n)
-counts s ls f x y =
+counts : (extra : Extra) (s : List ℕ) (ls : List Link) {n : Counts} → Field extra s (reverse ls) → n .links ≡ length ls
+    → n .params ≡ countParams (map (keptLink s) ls) → HeaderScanned extra s (Counted n)
+counts extra s ls f x y =
     counted
     (record {
       reading = ordered s ls;
@@ -61,27 +61,27 @@ counts s ls f x y =
 abbrev pub oneLinkMore : Counts → ℕ → Counts
 oneLinkMore n x = record { links = n .links + 1; params = n .params + x }
 
-module _ {s : List ℕ} where
-  pub start : {i : ℕ} → i ≡ 0 → LinksSoFar s i (record { links = 0; params = 0 })
-  start e =
-      subst (λ (i : ℕ). LinksSoFar s i (record { links = 0; params = 0 })) (sym e)
+module _ {extra : Extra} {s : List ℕ} where
+  pub start : {i : ℕ} → Admissible extra → i ≡ 0 → LinksSoFar extra s i (record { links = 0; params = 0 })
+  start a e =
+      subst (λ (i : ℕ). LinksSoFar extra s i (record { links = 0; params = 0 })) (sym e)
       (record {
         links = [];
-        stands = stands-start s;
+        stands = stands-start a s;
         link-count = refl;
         param-count = refl;
         few-links = omega arith;
         few-params = omega arith;
       })
 
-  module _ {i j : ℕ} {n : Counts} (b : LinksSoFar s i n) (p : Passed isBlank s i j) where
-    here : Stands s (gap (b .links)) j
+  module _ {i j : ℕ} {n : Counts} (b : LinksSoFar extra s i n) (p : Passed isBlank s i j) where
+    here : Stands extra s (gap (b .links)) j
     here = gap-blanks (b .stands) p
 
-    pub ended : length s ≤ j → HeaderScanned s (Counted n)
-    ended h = counts s (b .links) (finishes here h refl) (b .link-count) (b .param-count)
+    pub ended : length s ≤ j → HeaderScanned extra s (Counted n)
+    ended h = counts extra s (b .links) (finishes here h refl) (b .link-count) (b .param-count)
 
-    pub comma : {k : ℕ} → At s j 44 → k ≡ j + 1 → LinksSoFar s k n
+    pub comma : {k : ℕ} → At s j 44 → k ≡ j + 1 → LinksSoFar extra s k n
     comma q e =
         record {
           links = b .links;
@@ -93,24 +93,24 @@ module _ {s : List ℕ} where
         }
 
     pub no-start : {x y : Bool} → j < length s → Looked s j 44 x → x ≡ false → Looked s j 60 y → not y ≡ true
-        → HeaderScanned s (Malformed (record { 0 = j }))
+        → HeaderScanned extra s (Malformed (record { 0 = j }))
     no-start {y = y} h l e k f = malformed-at (halts-at here refl h (rw (p .stops h, l .not e h, k .not (not-true y f) h)))
 
-    module _ {k : ℕ} {r : LinkScan} (q : At s j 60) (e : k ≡ j + 1) (l : LinkScanned s k r) where
-      begun : Stands s (target (b .links) k) k
+    module _ {k : ℕ} {r : LinkScan} (q : At s j 60) (e : k ≡ j + 1) (l : LinkScanned extra s k r) where
+      begun : Stands extra s (target (b .links) k) k
       begun = target-begins here q e
 
-      pub link-stuck : {p : Place} → r ≡ NoLink p → HeaderScanned s (Malformed p)
-      link-stuck z = go (subst (LinkScanned s k) z l)
+      pub link-stuck : {p : Place} → r ≡ NoLink p → HeaderScanned extra s (Malformed p)
+      link-stuck z = go (subst (LinkScanned extra s k) z l)
         where
-          go : {p : Place} → LinkScanned s k (NoLink p) → HeaderScanned s (Malformed p)
+          go : {p : Place} → LinkScanned extra s k (NoLink p) → HeaderScanned extra s (Malformed p)
           go (no-link f) = malformed-at (f (b .links) begun)
 
       module _ {d : Cursor} {x : ℕ} (z : r ≡ Whole d x) where
-        pub whole : WholeLink s k (d .at .0) x
-        whole = go (subst (LinkScanned s k) z l)
+        pub whole : WholeLink extra s k (d .at .0) x
+        whole = go (subst (LinkScanned extra s k) z l)
           where
-            go : {d : Cursor} {x : ℕ} → LinkScanned s k (Whole d x) → WholeLink s k (d .at .0) x
+            go : {d : Cursor} {x : ℕ} → LinkScanned extra s k (Whole d x) → WholeLink extra s k (d .at .0) x
             go (a-link w) = w
 
         -- the counts stay below the place
@@ -120,11 +120,11 @@ module _ {s : List ℕ} where
         more-links : n .links + 1 ≡ suc (length (b .links))
         more-links = add-one (n .links) ∙ ap suc (b .link-count)
 
-        pub link-ended : length s ≤ d .at .0 → HeaderScanned s (Counted (oneLinkMore n x))
+        pub link-ended : length s ≤ d .at .0 → HeaderScanned extra s (Counted (oneLinkMore n x))
         link-ended h =
-            counts s (linkOf whole ∷ b .links) (link-last whole begun h) more-links (kept-with whole begun (b .param-count))
+            counts extra s (linkOf whole ∷ b .links) (link-last whole begun h) more-links (kept-with whole begun (b .param-count))
 
-        pub more : {v : ℕ} → d .at .0 < length s → v ≡ d .at .0 + 1 → LinksSoFar s v (oneLinkMore n x)
+        pub more : {v : ℕ} → d .at .0 < length s → v ≡ d .at .0 + 1 → LinksSoFar extra s v (oneLinkMore n x)
         more h f =
             record {
               links = linkOf whole ∷ b .links;

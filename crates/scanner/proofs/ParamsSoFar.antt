@@ -12,7 +12,7 @@ use borrow.Author.Tests.{not-true}
 use Rattle.octets.specs.Sets.{isBlank}
 use Rattle.octets.specs.Fold.{folded}
 use Rattle.grammar.specs.Link.{Param}
-use Rattle.grammar.specs.Grammar.{At}
+use Rattle.grammar.specs.Grammar.{Extra, At}
 use Rattle.grammar.specs.Kept.{nameOf, among, isOnce, keepAfter, codeOf}
 use Rattle.grammar.specs.Machine.{semi}
 use Rattle.tables.specs.Good.{InText}
@@ -36,33 +36,33 @@ use Rattle.scanner.proofs.KeptMore.{kept-more, keep-fewer}
 use Rattle.scanner.proofs.ReadyBehindParams.{holding, chain-forward, ready-blanks, ready-semi, ready-halts, chain-ready}
 
 -- how far a link's parameters have been passed, from place a: to i, with n of them kept and their names remembered
-pub record ParamsSoFar (s : List ℕ) (a i n : ℕ) (x : Seen) (params : List Param) : Type 0 where
-  pub chain : Chain s a params i
+pub record ParamsSoFar (extra : Extra) (s : List ℕ) (a i n : ℕ) (x : Seen) (params : List Param) : Type 0 where
+  pub chain : Chain extra s a params i
   pub inside : i ≤ length s
   pub kept : n ≡ length (keepAfter s [] (reverse params))
   pub seen : Remembers x (map (nameOf s) params)
 
-module _ {s : List ℕ} where
-  pub begin : {a : ℕ} {x : Seen} → a ≤ length s → x ≡ noneSeen → ParamsSoFar s a a 0 x []
+module _ {extra : Extra} {s : List ℕ} where
+  pub begin : {a : ℕ} {x : Seen} → a ≤ length s → x ≡ noneSeen → ParamsSoFar extra s a a 0 x []
   begin h e = record { chain = no-params; inside = h; kept = refl; seen = nothing-seen e }
 
   -- n parameters take as many octets at least
-  pub few-so-far : {a i n : ℕ} {x : Seen} {qs : List Param} → ParamsSoFar s a i n x qs → n + a ≤ i
+  pub few-so-far : {a i n : ℕ} {x : Seen} {qs : List Param} → ParamsSoFar extra s a i n x qs → n + a ≤ i
   few-so-far {qs = qs} g =
       omega (arith, g .kept, keep-fewer s [] (reverse qs), length-reverse qs, chain-forward (g .chain))
 
   pub more : {a i j k e n m c : ℕ} {x y : Seen} {b : Bool} {r : ParamRecord} {d : Cursor} {u : ParamScan} {qs : List Param}
-      → ParamsSoFar s a i n x qs → Passed isBlank s i j → At s j 59 → k ≡ j + 1 → Passed isBlank s k e → ParamScanned s e u → u ≡ AParam r d
+      → ParamsSoFar extra s a i n x qs → Passed isBlank s i j → At s j 59 → k ≡ j + 1 → Passed isBlank s k e → ParamScanned extra s e u → u ≡ AParam r d
       → c ≡ codeOf (folded (slice (r .name .from .0) (r .name .to .0) s)) → b ≡ hasCode x c → m ≡ n + cond b 0 1
-      → y ≡ withCode x c → ParamsSoFar s a (d .at .0) m y (toParam r ∷ qs)
+      → y ≡ withCode x c → ParamsSoFar extra s a (d .at .0) m y (toParam r ∷ qs)
   unfolding nameOf
   more {a} {j = j} {e = e} {n = n} {m = m} {x = x} {y = y} {b = b} {r = r} {d = d} {qs = qs} g w q l v u z c h f o =
-      go (subst (ParamScanned s e) z u)
+      go (subst (ParamScanned extra s e) z u)
     where
       told : b ≡ (isOnce (nameOf s (toParam r)) && among (map (nameOf s) qs) (nameOf s (toParam r)))
       told = has-told (g .seen) (nameOf s (toParam r)) c h
 
-      go : ParamScanned s e (AParam r d) → ParamsSoFar s a (d .at .0) m y (toParam r ∷ qs)
+      go : ParamScanned extra s e (AParam r d) → ParamsSoFar extra s a (d .at .0) m y (toParam r ∷ qs)
       go (a-param p) =
           record {
             chain = one-more (g .chain) w q (subst (λ (t : ℕ). Passed isBlank s t e) (l ∙ add-one j) v) p;
@@ -72,37 +72,37 @@ module _ {s : List ℕ} where
           }
 
   -- what was passed lies in the text, and the name too
-  pub param-inside : {e : ℕ} {r : ParamRecord} {d : Cursor} {u : ParamScan} → ParamScanned s e u → u ≡ AParam r d
+  pub param-inside : {e : ℕ} {r : ParamRecord} {d : Cursor} {u : ParamScan} → ParamScanned extra s e u → u ≡ AParam r d
       → (e < d .at .0) × (d .at .0 ≤ length s) × InText s (r .name .from .0) (r .name .to .0)
-  param-inside {e} {r} {d} u z = go (subst (ParamScanned s e) z u)
+  param-inside {e} {r} {d} u z = go (subst (ParamScanned extra s e) z u)
     where
-      go : ParamScanned s e (AParam r d)
+      go : ParamScanned extra s e (AParam r d)
           → (e < d .at .0) × (d .at .0 ≤ length s) × InText s (r .name .from .0) (r .name .to .0)
       go (a-param p) = (parsed-forward p .0, parsed-forward p .1, parsed-name p)
 
-  pub params-ended : {a i n : ℕ} {x : Seen} {qs : List Param} {c : Cursor} → ParamsSoFar s a i n x qs → Passed isBlank s i (c .at .0)
-      → (length s ≤ c .at .0) ⊎ At s (c .at .0) 44 → ParamsScanned s a (Whole c n)
+  pub params-ended : {a i n : ℕ} {x : Seen} {qs : List Param} {c : Cursor} → ParamsSoFar extra s a i n x qs → Passed isBlank s i (c .at .0)
+      → (length s ≤ c .at .0) ⊎ At s (c .at .0) 44 → ParamsScanned extra s a (Whole c n)
   params-ended g b e =
       all-params
       (record { params = _; end = _; chain = g .chain; blanks = b; ends = e; kept = g .kept })
 
-  pub neither : {a i j n : ℕ} {x : Seen} {qs : List Param} {p q : Bool} → ParamsSoFar s a i n x qs → Passed isBlank s i j → j < length s → Looked s j 44 p
-      → p ≡ false → Looked s j 59 q → not q ≡ true → ParamsScanned s a (NoLink (record { 0 = j }))
+  pub neither : {a i j n : ℕ} {x : Seen} {qs : List Param} {p q : Bool} → ParamsSoFar extra s a i n x qs → Passed isBlank s i j → j < length s → Looked s j 44 p
+      → p ≡ false → Looked s j 59 q → not q ≡ true → ParamsScanned extra s a (NoLink (record { 0 = j }))
   neither {q = q} g b h l e k f =
       no-params-here
       (λ ls c d r.
       ready-halts (ready-blanks (chain-ready ls c d (g .chain) r) (b .run)) h (b .stops h) (k .not (not-true q f) h)
       (l .not e h))
 
-  pub param-stuck : {a i j k e n : ℕ} {x : Seen} {qs : List Param} {p : Place} {u : ParamScan} → ParamsSoFar s a i n x qs → Passed isBlank s i j → At s j 59
-      → k ≡ j + 1 → Passed isBlank s k e → ParamScanned s e u → u ≡ NoParam p → ParamsScanned s a (NoLink p)
-  param-stuck {a} {j = j} {e = e} {qs = qs} g w q l v u z = go (subst (ParamScanned s e) z u)
+  pub param-stuck : {a i j k e n : ℕ} {x : Seen} {qs : List Param} {p : Place} {u : ParamScan} → ParamsSoFar extra s a i n x qs → Passed isBlank s i j → At s j 59
+      → k ≡ j + 1 → Passed isBlank s k e → ParamScanned extra s e u → u ≡ NoParam p → ParamsScanned extra s a (NoLink p)
+  param-stuck {a} {j = j} {e = e} {qs = qs} g w q l v u z = go (subst (ParamScanned extra s e) z u)
     where
-      go : {p : Place} → ParamScanned s e (NoParam p) → ParamsScanned s a (NoLink p)
+      go : {p : Place} → ParamScanned extra s e (NoParam p) → ParamsScanned extra s a (NoLink p)
       go (no-param f) =
           no-params-here
           (λ ls c d r.
           f (holding ls c d qs)
           (stands-run (λ i x y. rw y) (v .run)
-          (subst (Stands s (semi (holding ls c d qs))) (sym (l ∙ add-one j))
+          (subst (Stands extra s (semi (holding ls c d qs))) (sym (l ∙ add-one j))
           (ready-semi (ready-blanks (chain-ready ls c d (g .chain) r) (w .run)) q))))

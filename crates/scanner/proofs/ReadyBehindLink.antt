@@ -7,7 +7,7 @@ use mathlib.Core.List.{List, reverse}
 use lib.ListN.{length}
 use Rattle.octets.specs.Sets.{isTarget}
 use Rattle.grammar.specs.Link.{Link}
-use Rattle.grammar.specs.Grammar.{At, Target}
+use Rattle.grammar.specs.Grammar.{Extra, At, Target}
 use Rattle.grammar.specs.Machine.{target, after, close, opened}
 use Rattle.tables.proofs.Texts.{target-le}
 use Rattle.kinds.specs.declared.Place.{Place}
@@ -24,47 +24,47 @@ use Rattle.scanner.specs.declared.link.LinkScan.the-variants.{NoLink}
 use Rattle.scanner.specs.Linked.{ParamsScanned, no-params-here, all-params, WholeLink, LinkScanned, no-link, a-link}
 use Rattle.scanner.proofs.ReadyBehindParams.{holding, params-forward, ready-blanks, chain-ready}
 
-module _ {s : List ℕ} where
-  pub after-close : {a k : ℕ} (ls : List Link) → Target s a k → At s k 62 → Stands s (target ls a) a
-      → Stands s (after (opened ls a k)) (suc k)
+pub target-inside : {s : List ℕ} {a : ℕ} {c : Cursor} {r : Scan} → TargetScanned s a r → r ≡ Past c → c .at .0 < length s
+target-inside {s} {a} t e = go (subst (TargetScanned s a) e t)
+  where
+    go : {c : Cursor} → TargetScanned s a (Past c) → c .at .0 < length s
+    go (closed t q) = q .inside
+
+module _ {extra : Extra} {s : List ℕ} where
+  pub after-close : {a k : ℕ} (ls : List Link) → Target s a k → At s k 62 → Stands extra s (target ls a) a
+      → Stands extra s (after (opened ls a k)) (suc k)
   unfolding isTarget
   after-close {a} {k} ls t q p =
       stands-on (after (opened ls a k)) (target-stands ls a t p) (q .inside) (rw (q .is))
 
-  pub target-stuck : {a : ℕ} {p : Place} {r : Scan} → TargetScanned s a r → r ≡ Stuck p → LinkScanned s a (NoLink p)
+  pub target-stuck : {a : ℕ} {p : Place} {r : Scan} → TargetScanned s a r → r ≡ Stuck p → LinkScanned extra s a (NoLink p)
   target-stuck {a} t e = go (subst (TargetScanned s a) e t)
     where
-      go : {p : Place} → TargetScanned s a (Stuck p) → LinkScanned s a (NoLink p)
-      go (no-target f) = no-link (λ ls p. f ls a p)
-
-  pub target-inside : {a : ℕ} {c : Cursor} {r : Scan} → TargetScanned s a r → r ≡ Past c → c .at .0 < length s
-  target-inside {a} t e = go (subst (TargetScanned s a) e t)
-    where
-      go : {c : Cursor} → TargetScanned s a (Past c) → c .at .0 < length s
-      go (closed t q) = q .inside
+      go : {p : Place} → TargetScanned s a (Stuck p) → LinkScanned extra s a (NoLink p)
+      go (no-target f) = no-link (λ ls p. f extra ls a p)
 
   pub target-passed : {a j : ℕ} {c : Cursor} {r : Scan} {u : LinkScan} → TargetScanned s a r → r ≡ Past c → j ≡ c .at .0 + 1
-      → ParamsScanned s j u → LinkScanned s a u
+      → ParamsScanned extra s j u → LinkScanned extra s a u
   target-passed {a} {j} {c} {u = u} t e k p =
-      go (subst (TargetScanned s a) e t) (subst (λ (n : ℕ). ParamsScanned s n u) (k ∙ add-one (c .at .0)) p)
+      go (subst (TargetScanned s a) e t) (subst (λ (n : ℕ). ParamsScanned extra s n u) (k ∙ add-one (c .at .0)) p)
     where
-      go : {c : Cursor} {u : LinkScan} → TargetScanned s a (Past c) → ParamsScanned s (suc (c .at .0)) u → LinkScanned s a u
+      go : {c : Cursor} {u : LinkScan} → TargetScanned s a (Past c) → ParamsScanned extra s (suc (c .at .0)) u → LinkScanned extra s a u
       go (closed {c = c} t q) (no-params-here f) =
           no-link (λ ls p. f ls a (c .at .0) (ready-after (after-close ls t q p)))
       go (closed t q) (all-params w) = a-link (record { close = _; target = t; closed = q; rest = w })
 
   -- the link, with all its parameters
-  abbrev pub linkOf : {a j n : ℕ} → WholeLink s a j n → Link
+  abbrev pub linkOf : {a j n : ℕ} → WholeLink extra s a j n → Link
   linkOf {a} w = record { targetFrom = a; targetTo = w .close; params = reverse (w .rest .params) }
 
-  pub link-ready : {a j n : ℕ} (ls : List Link) (w : WholeLink s a j n) → Stands s (target ls a) a
-      → Ready s (holding ls a (w .close) (w .rest .params)) j
+  pub link-ready : {a j n : ℕ} (ls : List Link) (w : WholeLink extra s a j n) → Stands extra s (target ls a) a
+      → Ready extra s (holding ls a (w .close) (w .rest .params)) j
   link-ready {a} ls w p =
       ready-blanks
       (chain-ready ls a (w .close) (w .rest .chain) (ready-after (after-close ls (w .target) (w .closed) p)))
       (w .rest .blanks .run)
 
-  pub link-forward : {a j n : ℕ} → WholeLink s a j n → (n + suc a ≤ j) × (j ≤ length s)
+  pub link-forward : {a j n : ℕ} → WholeLink extra s a j n → (n + suc a ≤ j) × (j ≤ length s)
   link-forward w =
       let f = params-forward (w .rest) in
       (omega (arith, f .0, target-le s (w .target)), f .1)

@@ -9,7 +9,7 @@ use lib.Dec.{eqb}
 use lib.ListN.{length, getD, length-reverse}
 use Rattle.octets.specs.Sets.{isBlank}
 use Rattle.grammar.specs.Link.{Link, Param}
-use Rattle.grammar.specs.Grammar.{rfc8288, At, Run, run-end, run-more}
+use Rattle.grammar.specs.Grammar.{Extra, At, Run, run-end, run-more}
 use Rattle.grammar.specs.Place.{MalformedAt}
 use Rattle.grammar.specs.Machine.{State, gap, after, semi, Open, settle, close, opened}
 use Rattle.grammar.proofs.Prefix.{isDead, is-dead}
@@ -34,13 +34,13 @@ settled-alive st i ls e = go (isDead st) refl
         let z : _≡_ {A = ℕ} 0 1 = cc in
         absurd (omega arith)
 
-module _ {s : List ℕ} where
-  pub chain-forward : {a e : ℕ} {qs : List Param} → Chain s a qs e → length qs + a ≤ e
+module _ {extra : Extra} {s : List ℕ} where
+  pub chain-forward : {a e : ℕ} {qs : List Param} → Chain extra s a qs e → length qs + a ≤ e
   chain-forward no-params = omega arith
   chain-forward (one-more c b q w p) =
       omega (arith, chain-forward c, b .forward, w .forward, parsed-forward p .0)
 
-  pub params-forward : {a j n : ℕ} → Params s a j n → (n + a ≤ j) × (j ≤ length s)
+  pub params-forward : {a j n : ℕ} → Params extra s a j n → (n + a ≤ j) × (j ≤ length s)
   params-forward p = (
     omega (
       arith,
@@ -53,27 +53,27 @@ module _ {s : List ℕ} where
     p .blanks .inside,
   )
 
-  pub ready-blanks : {o : Open} {i j : ℕ} → Ready s o i → Run s isBlank i j → Ready s o j
+  pub ready-blanks : {o : Open} {i j : ℕ} → Ready extra s o i → Run s isBlank i j → Ready extra s o j
   ready-blanks r run-end = r
   ready-blanks {o} r (run-more b t) =
       ready-after
       (stands-run (λ i c q. rw q) t (stands-on (after o) (r .stands) (b .inside) (r .steps (b .inside) ∙ rw (b .is))))
 
-  pub ready-semi : {o : Open} {j : ℕ} → Ready s o j → At s j 59 → Stands s (semi o) (suc j)
+  pub ready-semi : {o : Open} {j : ℕ} → Ready extra s o j → At s j 59 → Stands extra s (semi o) (suc j)
   unfolding isBlank
   ready-semi {o} r q = stands-on (semi o) (r .stands) (q .inside) (r .steps (q .inside) ∙ rw (q .is))
 
-  pub ready-comma : {o : Open} {j : ℕ} → Ready s o j → At s j 44 → Stands s (gap (close o)) (suc j)
+  pub ready-comma : {o : Open} {j : ℕ} → Ready extra s o j → At s j 44 → Stands extra s (gap (close o)) (suc j)
   unfolding isBlank
   ready-comma {o} r q = stands-on (gap (close o)) (r .stands) (q .inside) (r .steps (q .inside) ∙ rw (q .is))
 
-  pub ready-halts : {o : Open} {j : ℕ} → Ready s o j → j < length s → isBlank (getD s j 0) ≡ false → eqb (getD s j 0) 59 ≡ false
-      → eqb (getD s j 0) 44 ≡ false → MalformedAt rfc8288 s j
+  pub ready-halts : {o : Open} {j : ℕ} → Ready extra s o j → j < length s → isBlank (getD s j 0) ≡ false → eqb (getD s j 0) 59 ≡ false
+      → eqb (getD s j 0) 44 ≡ false → MalformedAt extra s j
   ready-halts {o} {j} r h b x y =
       halts-at (r .stands) (settled-alive (r .state) j (close o) (r .settles)) h (r .steps h ∙ rw (b, x, y))
 
-  pub chain-ready : {a i : ℕ} {qs : List Param} (ls : List Link) (b k : ℕ) → Chain s a qs i → Ready s (opened ls b k) a
-      → Ready s (holding ls b k qs) i
+  pub chain-ready : {a i : ℕ} {qs : List Param} (ls : List Link) (b k : ℕ) → Chain extra s a qs i → Ready extra s (opened ls b k) a
+      → Ready extra s (holding ls b k qs) i
   chain-ready ls b k no-params r = r
   chain-ready ls b k (one-more {qs = qs} c w q v p) r =
       parsed-ready (holding ls b k qs) p

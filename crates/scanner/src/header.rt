@@ -1,4 +1,5 @@
 // A header: items parted by commas, each empty or one link.
+ghost use Rattle.octets.specs.Editions.{further};
 ghost use Rattle.scanner.specs.Linked.{HeaderScanned};
 use crate::HeaderScan;
 use crate::link::LinkScan;

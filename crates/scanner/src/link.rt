@@ -3,6 +3,7 @@ ghost use mathlib.Core.Path.{_≡_};
 ghost use mathlib.Core.Bool.{cond};
 ghost use Prim.Native.Nat.{_+_, _^_, _≤_, _<_};
 ghost use lib.ListN.{length};
+ghost use Rattle.octets.specs.Editions.{further};
 ghost use Rattle.scanner.specs.Linked.{ParamsScanned, LinkScanned};
 use cursor::Cursor;
 use kinds::Place;

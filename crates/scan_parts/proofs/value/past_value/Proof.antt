@@ -1,9 +1,9 @@
--- A quoted string, a token, or neither.
+-- A quoted string, a bare value, or neither.
 use native.Mathlib.Omega.{arith}
 use mathlib.Core.Path.{refl}
 use Rattle.scan_parts.specs.Scanned.{no-value, a-value}
 use Rattle.scan_parts.proofs.ReadyBehindValue.{no-value-here}
-use Rattle.scan_parts.proofs.PassedIsParsed.{token-parsed}
+use Rattle.scan_parts.proofs.PassedIsParsed.{bare-parsed}
 use Rattle.scan_parts.proofs.PartsScanned.{quote-stuck, quote-passed, quote-inside}
 use borrow.Author.Needs.{needs}
 use Rattle.scan_parts.proofs.value.past_value.Statement.{statement}
@@ -50,21 +50,29 @@ returns-2 c =
 past-token-requires : tie.Need-past-token-requires
 past-token-requires c κs = search needs
 
+past-further-requires : tie.Need-past-further-requires
+past-further-requires c κs = record { inside = c .past-token .ensures .inside; stops = c .past-token .ensures .stops }
+
 returns-3 : tie.Need-returns-3
 returns-3 c =
     let b1 = c .before .before .before .before in
-    let b2 = b1 .before .before .before .before in
+    let b2 = b1 .before .before .before in
     no-value
-    (no-value-here (b2 .pre) ((b1 .before .before .sees .ensures .not) (b1 .before .if1 .left)) (b1 .past-token .ensures)
-    (c .before .if2 .taken))
+    (no-value-here (b2 .before .before .pre) ((b2 .sees .ensures .not) (b1 .before .before .if1 .left))
+    (b1 .before .past-token .ensures) (b1 .past-further .ensures) (c .before .if2 .taken))
 
 span-to-requires-2 : tie.Need-span-to-requires-2
 span-to-requires-2 c κs = search needs
 
+bare-form-requires : tie.Need-bare-form-requires
+bare-form-requires c κs = search needs
+
 returns-4 : tie.Need-returns-4
 returns-4 c =
-    let b1 = c .before .before .before .before in
-    a-value refl (token-parsed (b1 .past-token .ensures) (c .before .if2 .left) (c .span-to2 .ensures))
+    let b1 = c .before .before .before .before .before in
+    a-value refl
+    (bare-parsed (b1 .before .past-token .ensures) (b1 .past-further .ensures) (c .before .before .if2 .left)
+    (c .before .span-to2 .ensures) (c .bare-form .ensures))
 
 pub past-value-spec : {M : Type 1} → statement M
 past-value-spec =
@@ -80,6 +88,8 @@ past-value-spec =
     returns
     returns-2
     past-token-requires
+    past-further-requires
     returns-3
     span-to-requires-2
+    bare-form-requires
     returns-4)

@@ -4,21 +4,23 @@ use native.Mathlib.Omega.{arith}
 use lib.ListN.{length}
 use borrow.Author.Needs.{needs}
 use borrow.Author.Tests.{not-false}
+use Rattle.octets.specs.Editions.{further}
+use Rattle.grammar.proofs.Editions.{apart}
 use Rattle.scanner.proofs.LinksSoFar.{LinksSoFar, start, ended, comma, no-start, link-stuck, whole-forward, link-ended, more}
 use Rattle.scanner.proofs.header.scan.Statement.{statement}
 use Rattle.scanner.proofs.header.scan.Tie as tie
 
 abbrev Inv-loop : tie.InvT-loop
-Inv-loop s c₀ counts₀ c counts = LinksSoFar s (c .at .0) counts
+Inv-loop edition s c₀ counts₀ c counts = LinksSoFar (further edition) s (c .at .0) counts
 
 abbrev μ-loop : tie.MeasureT-loop
-μ-loop s c₀ counts₀ c counts = length s - c .at .0
+μ-loop edition s c₀ counts₀ c counts = length s - c .at .0
 
 start-requires : tie.Need-start-requires Inv-loop μ-loop
 start-requires c κs = search needs
 
 loop-holds : tie.Need-loop-holds Inv-loop μ-loop
-loop-holds c = start (c .start .ensures)
+loop-holds c = start (apart (c .before .before .args .edition)) (c .start .ensures)
 
 past-blanks-requires : tie.Need-past-blanks-requires Inv-loop μ-loop
 past-blanks-requires c κs = (c .loop .inv .stands .inside)
@@ -85,7 +87,7 @@ add-counts c =
       b2 .loop .inv .stands .inside,
       b1 .before .before .past-blanks .ensures .forward,
       b1 .if1 .left,
-      b3 .good .0 .0,
+      b3 .good .1 .0,
     )
 
 add-counts-2 : tie.Need-add-counts-2 Inv-loop μ-loop
@@ -105,7 +107,7 @@ add-counts-2 c =
       b2 .past-octet2 .ensures,
       w .0,
       w .1,
-      b4 .good .0 .0,
+      b4 .good .1 .0,
     )
 
 returns-4 : tie.Need-returns-4 Inv-loop μ-loop

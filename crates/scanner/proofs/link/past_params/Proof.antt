@@ -7,15 +7,16 @@ use lib.ListN.{length}
 use borrow.Author.Needs.{needs}
 use borrow.Author.Tests.{not-false}
 use Rattle.grammar.specs.Link.{Param}
+use Rattle.octets.specs.Editions.{further}
 use Rattle.scanner.proofs.ParamsSoFar.{ParamsSoFar, begin, few-so-far, more, param-inside, params-ended, neither, param-stuck}
 use Rattle.scanner.proofs.link.past_params.Statement.{statement}
 use Rattle.scanner.proofs.link.past_params.Tie as tie
 
 abbrev Inv-loop : tie.InvT-loop
-Inv-loop s c₀ kept₀ seen₀ c kept seen = (params : List Param) × ParamsSoFar s (c₀ .at .0) (c .at .0) kept seen params
+Inv-loop edition s c₀ kept₀ seen₀ c kept seen = (params : List Param) × ParamsSoFar (further edition) s (c₀ .at .0) (c .at .0) kept seen params
 
 abbrev μ-loop : tie.MeasureT-loop
-μ-loop s c₀ kept₀ seen₀ c kept seen = length s - c .at .0
+μ-loop edition s c₀ kept₀ seen₀ c kept seen = length s - c .at .0
 
 none-requires : tie.Need-none-requires Inv-loop μ-loop
 none-requires c κs = search needs
@@ -88,7 +89,7 @@ counted-requires c κs =
       few-so-far (b2 .loop .inv .1),
       b1 .before .before .past-blanks .ensures .forward,
       b1 .if1 .left,
-      b3 .good .0 .0,
+      b3 .good .1 .0,
     )
 
 with-requires : tie.Need-with-requires Inv-loop μ-loop
