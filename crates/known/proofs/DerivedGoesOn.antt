@@ -9,7 +9,7 @@ use mathlib.Core.Option.{none}
 use lib.ListN.{length, getD}
 use borrow.Author.Tests.{eq-eqb}
 use Rattle.grammar.specs.Link.{Link}
-use Rattle.grammar.specs.Grammar.{rfc8288, At, In, Field}
+use Rattle.grammar.specs.Grammar.{Extra, At, In, Field}
 use Rattle.grammar.specs.Machine.{State, dead, step, settle}
 use Rattle.grammar.proofs.Prefix.{isDead}
 use Rattle.cursor.specs.Passed.{Looked}
@@ -17,14 +17,14 @@ use Rattle.grammar.specs.Place.{MalformedAt}
 use Rattle.scan_parts.specs.Stands.{Stands}
 use Rattle.scan_parts.proofs.Standing.{stands-on, halts-at, halts-end}
 
-module _ {s : List ℕ} {R : List Link} (f : Field rfc8288 s R) where
+module _ {extra : Extra} {s : List ℕ} {R : List Link} (f : Field extra s R) where
   -- a header that is derived does not halt
-  pub goes-on : {A : Type 0} {i : ℕ} → MalformedAt rfc8288 s i → A
+  pub goes-on : {A : Type 0} {i : ℕ} → MalformedAt extra s i → A
   goes-on h = absurd (h .malformed R f)
 
   -- an octet of the set g must stand here
-  pub must : {A : Type 0} (g : ℕ → Bool) {st : State} (new : State) {j : ℕ} → Stands s st j → isDead st ≡ false → settle st j ≡ none
-      → ((c : ℕ) → step rfc8288 st j c ≡ cond (g c) new dead) → (In s g j → Stands s new (suc j) → A) → A
+  pub must : {A : Type 0} (g : ℕ → Bool) {st : State} (new : State) {j : ℕ} → Stands extra s st j → isDead st ≡ false → settle st j ≡ none
+      → ((c : ℕ) → step extra st j c ≡ cond (g c) new dead) → (In s g j → Stands extra s new (suc j) → A) → A
   must {A} g new {j} p alive ends on k = go (decLe (length s) j)
     where
       test : (b : Bool) → g (getD s j 0) ≡ b → j < length s → A

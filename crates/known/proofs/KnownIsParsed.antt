@@ -1,24 +1,26 @@
 -- A value or a parameter that is known to be derived is parsed: what would be refused can't stand there.
 use Prim.Native.Nat.{ℕ, suc, _+_}
 use mathlib.Core.Path.{_≡_}
-use mathlib.Core.Bool.{Bool, false}
+use mathlib.Core.Bool.{Bool, false, cond}
 use mathlib.Core.List.{List}
+use lib.Dec.{eqb}
 use Rattle.octets.specs.Sets.{isBlank, isToken}
-use Rattle.grammar.specs.Grammar.{At}
+use Rattle.grammar.specs.Grammar.{Extra, isBare, At}
 use Rattle.kinds.specs.declared.Span.{Span}
 use Rattle.cursor.specs.Passed.{Passed, Looked}
 use Rattle.scan_parts.specs.Parsed.{ParsedValue}
 use Rattle.scan_parts.proofs.ReadyBehindValue.{first-of, no-value-here, quote-starts}
 use Rattle.scan_parts.proofs.ReadyBehindParam.{no-param-here, equals-reached}
-use Rattle.scan_parts.proofs.PassedIsParsed.{FromTo, token-parsed}
+use Rattle.scan_parts.proofs.PassedIsParsed.{FromTo, bare-parsed}
 use Rattle.known.specs.Known.{KnownQuoted, KnownValue, KnownParam}
 use Rattle.known.proofs.DerivedGoesOn.{goes-on}
 
-module _ {s : List ℕ} where
-  module _ {v : ℕ} (k : KnownValue s v) where
+module _ {extra : Extra} {s : List ℕ} where
+  module _ {v : ℕ} (k : KnownValue extra s v) where
     pub known-quoted : {j : ℕ} → At s v 34 → j ≡ v + 1 → KnownQuoted s j
     known-quoted q e =
         record {
+          extra = extra;
           link = k .link;
           name = k .name;
           end = k .end;
@@ -31,20 +33,21 @@ module _ {s : List ℕ} where
               };
         }
 
-    pub token-value : {e : ℕ} {a : Span} {b : Bool} → Looked s v 34 b → b ≡ false → Passed isToken s v e → FromTo a v e
-        → ParsedValue s v (a .from .0) (a .to .0) 1 e
-    token-value l f t w =
-        token-parsed t
+    pub bare-value : {m e f : ℕ} {a : Span} {b : Bool} → Looked s v 34 b → b ≡ false → Passed isToken s v m
+        → Passed (isBare extra) s m e → FromTo a v e → f ≡ cond (eqb m e) 1 3
+        → ParsedValue extra s v (a .from .0) (a .to .0) f e
+    bare-value l f t w x z =
+        bare-parsed t w
         (λ e.
         goes-on (k .known .derived)
-        (no-value-here (k .clear) (l .not f) t e (k .link) (k .name) (k .end) (k .known .stands)))
-        w
+        (no-value-here (k .clear) (l .not f) t w e (k .link) (k .name) (k .end) (k .known .stands)))
+        x z
 
-  module _ {a e : ℕ} (k : KnownParam s a) (t : Passed isToken s a e) where
+  module _ {a e : ℕ} (k : KnownParam extra s a) (t : Passed isToken s a e) where
     pub has-name : e ≡ a → ⊥
     has-name q = goes-on (k .known .derived) (no-param-here (k .clear) t q (k .link) (k .known .stands))
 
-    pub known-value : {i j v : ℕ} → Passed isBlank s e i → At s i 61 → j ≡ i + 1 → Passed isBlank s j v → KnownValue s v
+    pub known-value : {i j v : ℕ} → Passed isBlank s e i → At s i 61 → j ≡ i + 1 → Passed isBlank s j v → KnownValue extra s v
     known-value b q m w =
         record {
           link = k .link;

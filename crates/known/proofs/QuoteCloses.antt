@@ -11,7 +11,7 @@ use lib.ListN.{length, getD}
 use borrow.Author.Tests.{eqb-true, eq-eqb}
 use Rattle.octets.specs.Sets.{isPlain, isEscapable}
 use Rattle.grammar.specs.Link.{Link}
-use Rattle.grammar.specs.Grammar.{rfc8288, At, Inside, inside-end, plain, pair, Field}
+use Rattle.grammar.specs.Grammar.{Extra, At, Inside, inside-end, plain, pair, Field}
 use Rattle.grammar.proofs.Classes.{plain-not-quote, plain-not-backslash}
 use Rattle.grammar.specs.Machine.{quote, escape, Open}
 use Rattle.tables.proofs.Texts.{inside-le}
@@ -27,10 +27,10 @@ pub record Unquoted (s : List ℕ) (i : ℕ) : Type 0 where
   pub inside : Inside s i end
   pub closed : At s end 34
 
-module _ {s : List ℕ} {R : List Link} (derived : Field rfc8288 s R) where
+module _ {extra : Extra} {s : List ℕ} {R : List Link} (derived : Field extra s R) where
   module _ (o : Open) (n e v : ℕ) where
-    quote-on : (m i : ℕ) → length s ≤ i + suc m → Stands s (quote o n e v) i
-        → ((j : ℕ) → length s ≤ j + m → Stands s (quote o n e v) j → Unquoted s j) → Unquoted s i
+    quote-on : (m i : ℕ) → length s ≤ i + suc m → Stands extra s (quote o n e v) i
+        → ((j : ℕ) → length s ≤ j + m → Stands extra s (quote o n e v) j → Unquoted s j) → Unquoted s i
     quote-on m i h p further = go (decLe (length s) i)
       where
         test : (t : Bool) → eqb (getD s i 0) 34 ≡ t → (u : Bool) → eqb (getD s i 0) 92 ≡ u → (z : Bool)
@@ -56,7 +56,7 @@ module _ {s : List ℕ} {R : List Link} (derived : Field rfc8288 s R) where
         go (no l) =
             test (eqb (getD s i 0) 34) refl (eqb (getD s i 0) 92) refl (isPlain (getD s i 0)) refl (omega arith)
 
-    quote-closes : (m i : ℕ) → length s ≤ i + m → Stands s (quote o n e v) i → Unquoted s i
+    quote-closes : (m i : ℕ) → length s ≤ i + m → Stands extra s (quote o n e v) i → Unquoted s i
     quote-closes zero i h p = goes-on derived (halts-end p refl (omega arith) refl)
     quote-closes (suc m) i h p = quote-on m i h p (quote-closes m)
 

@@ -12,7 +12,7 @@ use borrow.Author.Tests.{eqb-true, eq-eqb}
 use Rattle.octets.specs.Sets.{isTarget, isHex}
 use Rattle.octets.proofs.Laws.{not-eqb}
 use Rattle.grammar.specs.Link.{Link}
-use Rattle.grammar.specs.Grammar.{rfc8288, At, In, Run, run-end, run-more, Target, target-end, octet, triple, Field}
+use Rattle.grammar.specs.Grammar.{Extra, At, In, Run, run-end, run-more, Target, target-end, octet, triple, Field}
 use Rattle.grammar.specs.Machine.{target, percent, hex}
 use Rattle.tables.proofs.Texts.{run-le}
 use Rattle.cursor.specs.Passed.{Looked}
@@ -27,13 +27,13 @@ pub record Closed (s : List ℕ) (i : ℕ) : Type 0 where
   pub inside : Target s i end
   pub closed : At s end 62
 
-module _ {s : List ℕ} {R : List Link} (derived : Field rfc8288 s R) where
+module _ {extra : Extra} {s : List ℕ} {R : List Link} (derived : Field extra s R) where
   module _ (ls : List Link) (b : ℕ) where
-    target-on : (n i : ℕ) → length s ≤ i + suc n → Stands s (target ls b) i
-        → ((j : ℕ) → length s ≤ j + n → Stands s (target ls b) j → Closed s j) → Closed s i
+    target-on : (n i : ℕ) → length s ≤ i + suc n → Stands extra s (target ls b) i
+        → ((j : ℕ) → length s ≤ j + n → Stands extra s (target ls b) j → Closed s j) → Closed s i
     target-on n i h p further = go (decLe (length s) i)
       where
-        digits : i < length s → eqb (getD s i 0) 37 ≡ true → Stands s (percent ls b) (suc i) → Closed s i
+        digits : i < length s → eqb (getD s i 0) 37 ≡ true → Stands extra s (percent ls b) (suc i) → Closed s i
         digits l u q =
             must derived isHex (hex ls b) q refl refl (λ c. refl)
             (λ x q.
@@ -62,7 +62,7 @@ module _ {s : List ℕ} {R : List Link} (derived : Field rfc8288 s R) where
             test (isTarget (getD s i 0)) refl (eqb (getD s i 0) 37) refl (eqb (getD s i 0) 62) refl (omega arith)
 
     -- with n octets left at most
-    target-closes : (n i : ℕ) → length s ≤ i + n → Stands s (target ls b) i → Closed s i
+    target-closes : (n i : ℕ) → length s ≤ i + n → Stands extra s (target ls b) i → Closed s i
     target-closes zero i h p = goes-on derived (halts-end p refl (omega arith) refl)
     target-closes (suc n) i h p = target-on n i h p (target-closes n)
 

@@ -1,4 +1,5 @@
 // A parameter that is known to be derived, behind `;` and blanks.
+ghost use Rattle.octets.specs.Editions.{further};
 ghost use Rattle.records.specs.Slots.{toParam};
 ghost use Rattle.scan_parts.specs.Parsed.{Parsed};
 ghost use Rattle.known.specs.Known.{KnownParam};

@@ -1,4 +1,5 @@
 // A value that is known to be derived, behind `=` and blanks.
+ghost use Rattle.octets.specs.Editions.{further};
 ghost use Rattle.scan_parts.specs.Parsed.{ParsedValue};
 ghost use Rattle.known.specs.Known.{KnownValue};
 use crate::quoted::inside_end;

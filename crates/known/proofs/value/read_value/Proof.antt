@@ -1,7 +1,7 @@
--- A quoted string, else a token: one of them stands there.
+-- A quoted string, else a bare value: one of them stands there.
 use borrow.Author.Needs.{needs}
 use Rattle.scan_parts.proofs.PassedIsParsed.{quoted-parsed}
-use Rattle.known.proofs.KnownIsParsed.{known-quoted, token-value}
+use Rattle.known.proofs.KnownIsParsed.{known-quoted, bare-value}
 use Rattle.known.proofs.value.read_value.Statement.{statement}
 use Rattle.known.proofs.value.read_value.Tie as tie
 
@@ -32,13 +32,21 @@ returns c =
 past-token-requires : tie.Need-past-token-requires
 past-token-requires c κs = c .before .before .before .pre .clear .inside
 
+past-further-requires : tie.Need-past-further-requires
+past-further-requires c κs = record { inside = c .past-token .ensures .inside; stops = c .past-token .ensures .stops }
+
 span-to-requires-2 : tie.Need-span-to-requires-2
 span-to-requires-2 c κs = search needs
 
+bare-form-requires : tie.Need-bare-form-requires
+bare-form-requires c κs = search needs
+
 returns-2 : tie.Need-returns-2
 returns-2 c =
-    token-value (c .before .before .before .before .before .pre) (c .before .before .before .sees .ensures)
-    (c .before .before .if1 .left) (c .before .past-token .ensures) (c .span-to2 .ensures)
+    let b1 = c .before .before .before in
+    let b2 = b1 .before .before in
+    bare-value (b2 .before .before .pre) (b2 .sees .ensures) (b1 .before .if1 .left) (b1 .past-token .ensures)
+    (c .before .before .past-further .ensures) (c .before .span-to2 .ensures) (c .bare-form .ensures)
 
 pub read-value-spec : {M : Type 1} → statement M
 read-value-spec =
@@ -51,5 +59,7 @@ read-value-spec =
     past-octet-requires-2
     returns
     past-token-requires
+    past-further-requires
     span-to-requires-2
+    bare-form-requires
     returns-2)
