@@ -12,7 +12,7 @@ use lib.Seq.{sets, length-sets}
 use borrow.Author.Tests.{eqb-true}
 use Rattle.octets.specs.Sets.{isBlank}
 use Rattle.grammar.specs.Link.{Link, Param}
-use Rattle.grammar.specs.Grammar.{rfc8288, At, Field}
+use Rattle.grammar.specs.Grammar.{Extra, Admissible, At, Field}
 use Rattle.grammar.specs.Kept.{keptLink, keepAfter, Reading}
 use Rattle.grammar.specs.Records.{
   linkWidth,
@@ -26,7 +26,6 @@ use Rattle.grammar.specs.Records.{
 }
 use Rattle.grammar.specs.Machine.{State, gap, target, step, dead}
 use Rattle.grammar.proofs.Rest.{Rest}
-use Rattle.grammar.proofs.Editions.{admissible8288}
 use Rattle.grammar.proofs.Readings.{one-reading}
 use Rattle.grammar.proofs.Joining.{link-records-append, param-records-append}
 use Rattle.tables.proofs.Filled.{link-records-length, param-records-length}
@@ -68,20 +67,20 @@ front : (l vs : List ℕ) (n : ℕ) → length vs ≡ n → n ≤ length l → s
 front l vs n e h = sets-front l vs (omega arith) ∙ ap (λ (k : ℕ). vs ++ drop k l) e
 
 -- at place i, between links: those held have been read and written, and the next numbers are n and m
-pub record LinksWritten (s L₀ P₀ : List ℕ) (i n m : ℕ) (L P : List ℕ) : Type 0 where
+pub record LinksWritten (extra : Extra) (s L₀ P₀ : List ℕ) (i n m : ℕ) (L P : List ℕ) : Type 0 where
   pub links : List Link
-  pub stands : Stands s (gap links) i
+  pub stands : Stands extra s (gap links) i
   pub link-number : n ≡ length links
   pub param-number : m ≡ countParams (map (keptLink s) links)
   pub held : LinksHeld s L₀ P₀ links L P
 
-module _ {s L₀ P₀ : List ℕ} (fits : ReadingFits s L₀ P₀) where
+module _ {extra : Extra} {s L₀ P₀ : List ℕ} (fits : ReadingFits extra s L₀ P₀) where
   -- a header that ends with these links read has their reading
-  held-filled : {L P : List ℕ} (ls : List Link) → Field rfc8288 s (reverse ls) → LinksHeld s L₀ P₀ ls L P → TablesFilled s L₀ L P₀ P
-  held-filled ls f h =
+  held-filled : {L P : List ℕ} → Admissible extra → (ls : List Link) → Field extra s (reverse ls) → LinksHeld s L₀ P₀ ls L P → TablesFilled extra s L₀ L P₀ P
+  held-filled a ls f h =
       let K = ordered s ls in
-      let reads : Reading rfc8288 s K = record { links = reverse ls; derived = f; kept = refl } in
-      let same : fits .reading ≡ K = one-reading rfc8288 admissible8288 s (fits .reading) K (fits .reads) reads in
+      let reads : Reading extra s K = record { links = reverse ls; derived = f; kept = refl } in
+      let same : fits .reading ≡ K = one-reading extra a s (fits .reading) K (fits .reads) reads in
       record {
         reading = K;
         reads = reads;
@@ -95,28 +94,28 @@ module _ {s L₀ P₀ : List ℕ} (fits : ReadingFits s L₀ P₀) where
             (omega (arith, fits .param-room, ap countParams same));
       }
 
-  pub filling-start : {i n m : ℕ} → i ≡ 0 → n ≡ 0 → m ≡ 0 → LinksWritten s L₀ P₀ i n m L₀ P₀
-  filling-start e f g =
+  pub filling-start : {i n m : ℕ} → Admissible extra → i ≡ 0 → n ≡ 0 → m ≡ 0 → LinksWritten extra s L₀ P₀ i n m L₀ P₀
+  filling-start a e f g =
       record {
         links = [];
-        stands = subst (Stands s (gap [])) (sym e) (stands-start s);
+        stands = subst (Stands extra s (gap [])) (sym e) (stands-start a s);
         link-number = f;
         param-number = g;
         held = record { link-slots = refl; param-slots = refl };
       }
 
-  module _ {i n m : ℕ} {L P : List ℕ} (w : LinksWritten s L₀ P₀ i n m L P) where
+  module _ {i n m : ℕ} {L P : List ℕ} (w : LinksWritten extra s L₀ P₀ i n m L P) where
     pub filling-lengths : (length L ≡ length L₀) × (length P ≡ length P₀)
     filling-lengths = held-lengths (w .held)
 
     module _ {j : ℕ} (p : Passed isBlank s i j) where
-      here : Stands s (gap (w .links)) j
+      here : Stands extra s (gap (w .links)) j
       here = gap-blanks (w .stands) p
 
-      pub filled-at-end : length s ≤ j → TablesFilled s L₀ L P₀ P
-      filled-at-end h = held-filled (w .links) (finishes here h refl) (w .held)
+      pub filled-at-end : length s ≤ j → TablesFilled extra s L₀ L P₀ P
+      filled-at-end h = held-filled (w .stands .apart) (w .links) (finishes here h refl) (w .held)
 
-      pub comma-on : {k : ℕ} → At s j 44 → k ≡ j + 1 → LinksWritten s L₀ P₀ k n m L P
+      pub comma-on : {k : ℕ} → At s j 44 → k ≡ j + 1 → LinksWritten extra s L₀ P₀ k n m L P
       comma-on q e =
           record {
             links = w .links;
@@ -133,18 +132,18 @@ module _ {s L₀ P₀ : List ℕ} (fits : ReadingFits s L₀ P₀) where
           go : (b : Bool) → eqb (getD s j 0) 60 ≡ b → At s j 60
           go true f = record { inside = h; is = eqb-true (getD s j 0) 60 f }
           go false f =
-              let died : step rfc8288 (gap (w .links)) j (getD s j 0) ≡ dead = rw (p .stops h, e, f) in
+              let died : step extra (gap (w .links)) j (getD s j 0) ≡ dead = rw (p .stops h, e, f) in
               absurd
               (true≢false
               (rest-alive
-              (subst (λ (x : State). Rest rfc8288 s x (suc j) (fits .reads .links)) died
+              (subst (λ (x : State). Rest extra s x (suc j) (fits .reads .links)) died
               (stands-rest (fits .reads .derived) (stands-step here h)))))
 
       module _ {k : ℕ} (h : j < length s) (c : eqb (getD s j 0) 44 ≡ false) (q : k ≡ j + 1) where
-        begun : Stands s (target (w .links) k) k
+        begun : Stands extra s (target (w .links) k) k
         begun = target-begins here (link-begins h c) q
 
-        pub before-link : BeforeLink s L P k n m
+        pub before-link : BeforeLink extra s L P k n m
         before-link =
             let all = fits .reads .links in
             let links : length (fits .reading) ≡ length all = ap length (fits .reads .kept) ∙ length-map all (keptLink s) in
@@ -162,7 +161,7 @@ module _ {s L₀ P₀ : List ℕ} (fits : ReadingFits s L₀ P₀) where
               param-number = w .param-number;
             }
 
-        module _ {d x : ℕ} {L′ P′ : List ℕ} (f : LinkFilled s k d n m x L L′ P P′) where
+        module _ {d x : ℕ} {L′ P′ : List ℕ} (f : LinkFilled extra s k d n m x L L′ P P′) where
           link : Link
           link = linkOf (f .link)
 
@@ -212,11 +211,11 @@ module _ {s L₀ P₀ : List ℕ} (fits : ReadingFits s L₀ P₀) where
                     ∙ sym (sets-append P₀ 0 (paramRecords K) (recordsOf kept)) ∙ ap (sets P₀ 0) params-more;
               }
 
-          pub filled-behind : length s ≤ d → TablesFilled s L₀ L′ P₀ P′
+          pub filled-behind : length s ≤ d → TablesFilled extra s L₀ L′ P₀ P′
           unfolding link
-          filled-behind e = held-filled (linkOf (f .link) ∷ w .links) (link-last (f .link) begun e) held-more
+          filled-behind e = held-filled (w .stands .apart) (linkOf (f .link) ∷ w .links) (link-last (f .link) begun e) held-more
 
-          pub link-on : {v u : ℕ} → d < length s → v ≡ d + 1 → u ≡ n + 1 → LinksWritten s L₀ P₀ v u x L′ P′
+          pub link-on : {v u : ℕ} → d < length s → v ≡ d + 1 → u ≡ n + 1 → LinksWritten extra s L₀ P₀ v u x L′ P′
           unfolding link
           link-on e y z =
               record {

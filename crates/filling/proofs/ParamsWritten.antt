@@ -12,7 +12,7 @@ use borrow.Author.Tests.{not-true}
 use Rattle.octets.specs.Sets.{isBlank}
 use Rattle.octets.specs.Fold.{folded}
 use Rattle.grammar.specs.Link.{Param}
-use Rattle.grammar.specs.Grammar.{At}
+use Rattle.grammar.specs.Grammar.{Extra, At}
 use Rattle.grammar.specs.Kept.{nameOf, among, isOnce, unless, keepAfter, codeOf}
 use Rattle.grammar.specs.Records.{paramWidth, paramRoom, recordsOf}
 use Rattle.grammar.specs.Machine.{semi}
@@ -41,29 +41,29 @@ records-append (x ∷ xs) ys =
     ap (λ (r : List ℕ). x .nameFrom ∷ x .nameTo ∷ x .valueFrom ∷ x .valueTo ∷ x .form ∷ r) (records-append xs ys)
 
 -- from place a, with the next number m and the table `old`: at place i the next number is n, and the table is `new`
-pub record ParamsWritten (s : List ℕ) (a m : ℕ) (old : List ℕ) (i n : ℕ) (x : Seen) (new : List ℕ) : Type 0 where
+pub record ParamsWritten (extra : Extra) (s : List ℕ) (a m : ℕ) (old : List ℕ) (i n : ℕ) (x : Seen) (new : List ℕ) : Type 0 where
   pub count : ℕ
   pub params : List Param
-  pub along : ParamsSoFar s a i count x params
+  pub along : ParamsSoFar extra s a i count x params
   pub number : n ≡ m + count
   pub written : new ≡ sets old (paramWidth * m) (recordsOf (keepAfter s [] (reverse params)))
 
-module _ {s old : List ℕ} {a m : ℕ} (b : BeforeParams s old a m) where
-  pub written-begin : {x : Seen} → a ≤ length s → x ≡ noneSeen → ParamsWritten s a m old a m x old
+module _ {extra : Extra} {s old : List ℕ} {a m : ℕ} (b : BeforeParams extra s old a m) where
+  pub written-begin : {x : Seen} → a ≤ length s → x ≡ noneSeen → ParamsWritten extra s a m old a m x old
   written-begin h e =
       record { count = 0; params = []; along = begin h e; number = sym (add-zero m); written = refl }
 
   -- where the machine stands behind the parameters so far
-  ready-here : {i k : ℕ} {x : Seen} {qs : List Param} → ParamsSoFar s a i k x qs → Ready s (holding (b .links) (b .from) (b .to) qs) i
+  ready-here : {i k : ℕ} {x : Seen} {qs : List Param} → ParamsSoFar extra s a i k x qs → Ready extra s (holding (b .links) (b .from) (b .to) qs) i
   ready-here g = chain-ready (b .links) (b .from) (b .to) (g .chain) (b .ready)
 
   -- there is room for what is kept so far
-  room-here : {i k : ℕ} {x : Seen} {qs : List Param} → ParamsSoFar s a i k x qs → m + k ≤ paramRoom old
+  room-here : {i k : ℕ} {x : Seen} {qs : List Param} → ParamsSoFar extra s a i k x qs → m + k ≤ paramRoom old
   room-here g = omega (arith, part-params (b .derived) (ready-here g), b .room, b .number, g .kept)
 
   -- no further parameter: what was written is all
-  pub filled-ends : {i j n : ℕ} {x : Seen} {new : List ℕ} {q : Bool} → ParamsWritten s a m old i n x new → Passed isBlank s i j
-      → Looked s j 59 q → not q ≡ true → ParamsFilled s a j m n old new
+  pub filled-ends : {i j n : ℕ} {x : Seen} {new : List ℕ} {q : Bool} → ParamsWritten extra s a m old i n x new → Passed isBlank s i j
+      → Looked s j 59 q → not q ≡ true → ParamsFilled extra s a j m n old new
   filled-ends {q = q} w p l f =
       record {
         params = w .params;
@@ -76,8 +76,8 @@ module _ {s old : List ℕ} {a m : ℕ} (b : BeforeParams s old a m) where
       }
 
   -- behind a semicolon and blanks, a parameter is known to stand
-  pub known-param : {i j k e n : ℕ} {x : Seen} {new : List ℕ} → ParamsWritten s a m old i n x new → Passed isBlank s i j → At s j 59
-      → k ≡ j + 1 → Passed isBlank s k e → KnownParam s e
+  pub known-param : {i j k e n : ℕ} {x : Seen} {new : List ℕ} → ParamsWritten extra s a m old i n x new → Passed isBlank s i j → At s j 59
+      → k ≡ j + 1 → Passed isBlank s k e → KnownParam extra s e
   known-param {j = j} w p q l r =
       let o = holding (b .links) (b .from) (b .to) (w .params) in
       record {
@@ -88,20 +88,20 @@ module _ {s old : List ℕ} {a m : ℕ} (b : BeforeParams s old a m) where
               derived = b .derived;
               stands =
                   stands-run (λ i x y. rw y) (r .run)
-                  (subst (Stands s (semi o)) (sym (l ∙ add-one j)) (ready-semi (ready-blanks (ready-here (w .along)) (p .run)) q));
+                  (subst (Stands extra s (semi o)) (sym (l ∙ add-one j)) (ready-semi (ready-blanks (ready-here (w .along)) (p .run)) q));
             };
         clear = record { inside = r .inside; clear = r .stops };
       }
 
-  pub written-length : {i n : ℕ} {x : Seen} {new : List ℕ} (w : ParamsWritten s a m old i n x new) → length new ≡ length old
+  pub written-length : {i n : ℕ} {x : Seen} {new : List ℕ} (w : ParamsWritten extra s a m old i n x new) → length new ≡ length old
   written-length w =
       ap length (w .written) ∙ length-sets old (paramWidth * m) (recordsOf (keepAfter s [] (reverse (w .params))))
 
   -- one parameter more
-  module _ {i j k e n c d : ℕ} {x : Seen} {new : List ℕ} {r : ParamRecord} {z : Bool} (w : ParamsWritten s a m old i n x new)
-      (p : Passed isBlank s i j) (q : At s j 59) (l : k ≡ j + 1) (v : Passed isBlank s k e) (f : Parsed s e (toParam r) d)
+  module _ {i j k e n c d : ℕ} {x : Seen} {new : List ℕ} {r : ParamRecord} {z : Bool} (w : ParamsWritten extra s a m old i n x new)
+      (p : Passed isBlank s i j) (q : At s j 59) (l : k ≡ j + 1) (v : Passed isBlank s k e) (f : Parsed extra s e (toParam r) d)
       (h : c ≡ codeOf (folded (slice (r .name .from .0) (r .name .to .0) s))) (o : z ≡ hasCode x c) where
-    along-more : ParamsSoFar s a d (w .count + cond z 0 1) (withCode x c) (toParam r ∷ w .params)
+    along-more : ParamsSoFar extra s a d (w .count + cond z 0 1) (withCode x c) (toParam r ∷ w .params)
     along-more = more {d = record { at = record { 0 = d } }} (w .along) p q l v (a-param f) refl h o refl refl
 
     pub keep-room : z ≡ false → n < paramRoom new
@@ -132,13 +132,13 @@ module _ {s old : List ℕ} {a m : ℕ} (b : BeforeParams s old a m) where
         ∙ ap (sets old (paramWidth * m)) (sym (records-append kept (toParam r ∷ [])))
 
     pub written-on : {n′ : ℕ} {y : Seen} {new′ : List ℕ} → KeptOnce z r n n′ new new′ → y ≡ withCode x c
-        → ParamsWritten s a m old d n′ y new′
+        → ParamsWritten extra s a m old d n′ y new′
     unfolding kept
     written-on t y =
         record {
           count = w .count + cond z 0 1;
           params = toParam r ∷ w .params;
-          along = subst (λ (g : Seen). ParamsSoFar s a d (w .count + cond z 0 1) g (toParam r ∷ w .params)) (sym y) along-more;
+          along = subst (λ (g : Seen). ParamsSoFar extra s a d (w .count + cond z 0 1) g (toParam r ∷ w .params)) (sym y) along-more;
           number = t .next ∙ ap (λ (g : ℕ). g + cond z 0 1) (w .number) ∙ add-assoc m (w .count) (cond z 0 1);
           written =
               t .written ∙ records-more z

@@ -1,4 +1,5 @@
 // The second pass: fills in the records of a header that has a reading, in tables that have room for it. Nothing is judged again.
+ghost use Rattle.octets.specs.Editions.{further};
 ghost use Rattle.filling.specs.Filling.{ReadingFits, TablesFilled};
 use crate::link::fill_link;
 use cursor::Cursor;

@@ -1,4 +1,5 @@
 // The records of one link, behind its `<`.
+ghost use Rattle.octets.specs.Editions.{further};
 ghost use Rattle.filling.specs.Filling.{BeforeLink, LinkFilled};
 use crate::params::Behind;
 use crate::params::fill_params;
@@ -26,10 +27,11 @@ pub fn fill_link(
     let t = target_end(s, from);
     let behind = fill_params(edition, s, t.past_octet(s), params, m);
     let target = from.span_to(t);
+    let count = behind.next.0 - m.0;
     let r = LinkRecord {
         target,
         first: m,
-        count: behind.next.0 - m.0,
+        count,
     };
     records::put_link(links, n, r);
     behind

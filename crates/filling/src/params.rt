@@ -3,6 +3,7 @@ ghost use mathlib.Core.Path.{_≡_};
 ghost use mathlib.Core.Bool.{false};
 ghost use Prim.Native.Nat.{_<_};
 ghost use Rattle.grammar.specs.Records.{paramRoom};
+ghost use Rattle.octets.specs.Editions.{further};
 ghost use Rattle.filling.specs.Filling.{KeptOnce, BeforeParams, ParamsFilled};
 use cursor::Cursor;
 use kinds::ParamNumber;

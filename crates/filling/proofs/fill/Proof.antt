@@ -3,6 +3,8 @@ use Prim.Native.Nat.{_-_}
 use native.Mathlib.Omega.{arith}
 use lib.ListN.{length}
 use borrow.Author.Needs.{needs}
+use Rattle.octets.specs.Editions.{further}
+use Rattle.grammar.proofs.Editions.{apart}
 use Rattle.filling.proofs.LinksWritten.{
   LinksWritten,
   filling-start,
@@ -20,11 +22,11 @@ use Rattle.filling.proofs.fill.Statement.{statement}
 use Rattle.filling.proofs.fill.Tie as tie
 
 abbrev Inv-loop : tie.InvT-loop
-Inv-loop s links₀ params₀ c₀ n₀ m₀ links params c n m =
-    LinksWritten s links₀ params₀ (c .at .0) (n .0) (m .0) links params
+Inv-loop edition s links₀ params₀ c₀ n₀ m₀ links params c n m =
+    LinksWritten (further edition) s links₀ params₀ (c .at .0) (n .0) (m .0) links params
 
 abbrev μ-loop : tie.MeasureT-loop
-μ-loop s links₀ params₀ c₀ n₀ m₀ links params c n m = length s - c .at .0
+μ-loop edition s links₀ params₀ c₀ n₀ m₀ links params c n m = length s - c .at .0
 
 start-requires : tie.Need-start-requires Inv-loop μ-loop
 start-requires c κs = search needs
@@ -38,7 +40,7 @@ first-requires-2 c κs = search needs
 loop-holds : tie.Need-loop-holds Inv-loop μ-loop
 loop-holds c =
     let b1 = c .before .before .before .before .before .before in
-    filling-start (b1 .pre) (c .before .before .start .ensures) (c .before .first .ensures) (c .first2 .ensures)
+    filling-start (b1 .pre) (apart (b1 .args .edition)) (c .before .before .start .ensures) (c .before .first .ensures) (c .first2 .ensures)
 
 past-blanks-requires : tie.Need-past-blanks-requires Inv-loop μ-loop
 past-blanks-requires c κs = (c .loop .inv .stands .inside)

@@ -18,8 +18,8 @@ fill-params-requires c κs =
 span-to-requires : tie.Need-span-to-requires
 span-to-requires c κs = search needs
 
-sub-t14 : tie.Need-sub-t14
-sub-t14 c = search needs
+sub-count : tie.Need-sub-count
+sub-count c = search needs
 
 put-link-requires : tie.Need-put-link-requires
 put-link-requires c κs =
@@ -50,7 +50,7 @@ fill-link-spec =
     past-octet-requires
     fill-params-requires
     span-to-requires
-    sub-t14
+    sub-count
     put-link-requires
     same-length
     same-length-2

@@ -5,6 +5,7 @@ use lib.ListN.{length}
 use borrow.Author.Needs.{needs}
 use borrow.Author.Tests.{not-false}
 use Rattle.scan_parts.proofs.ReadyBehindParam.{parsed-forward, parsed-name}
+use Rattle.octets.specs.Editions.{further}
 use Rattle.filling.proofs.ParamsWritten.{
   ParamsWritten,
   written-begin,
@@ -18,11 +19,11 @@ use Rattle.filling.proofs.params.fill_params.Statement.{statement}
 use Rattle.filling.proofs.params.fill_params.Tie as tie
 
 abbrev Inv-loop : tie.InvT-loop
-Inv-loop s params₀ c₀ n₀ seen₀ params c n seen =
-    ParamsWritten s (c₀ .at .0) (n₀ .0) params₀ (c .at .0) (n .0) seen params
+Inv-loop edition s params₀ c₀ n₀ seen₀ params c n seen =
+    ParamsWritten (further edition) s (c₀ .at .0) (n₀ .0) params₀ (c .at .0) (n .0) seen params
 
 abbrev μ-loop : tie.MeasureT-loop
-μ-loop s params₀ c₀ n₀ seen₀ params c n seen = length s - c .at .0
+μ-loop edition s params₀ c₀ n₀ seen₀ params c n seen = length s - c .at .0
 
 none-requires : tie.Need-none-requires Inv-loop μ-loop
 none-requires c κs = search needs
