@@ -2,11 +2,13 @@
 use Prim.Native.Nat.{ℕ}
 use native.Mathlib.Omega.{arith}
 use mathlib.Core.Bool.{Bool, true, false, not, false≢true}
-use mathlib.Core.Path.{_≡_, refl, sym}
+use mathlib.Core.Path.{_≡_, refl, sym, subst}
 use Rattle.octets.specs.Sets.{isToken, isLetter, isDigit, isPlain, isOlder}
-use Rattle.octets.specs.Editions.{numberOf, further, NoEdition}
+use Rattle.octets.specs.Editions.{numberOf, further, NoEdition, IsAsked}
 use Rattle.octets.specs.declared.editions.Edition.{Edition}
 use Rattle.octets.specs.declared.editions.Edition.the-variants.{Rfc8288, Rfc5988}
+use Rattle.octets.specs.declared.editions.Asked.{Asked}
+use Rattle.octets.specs.declared.editions.Asked.the-variants.{Known, Unknown}
 use Rattle.octets.proofs.Listed.{olderMarks}
 use Rattle.octets.proofs.Octets.{Octets, within, oneOf-octets}
 
@@ -44,3 +46,10 @@ pub no-backslash : (e : Edition) → further e 92 ≡ false
 unfolding isOlder
 no-backslash Rfc8288 = refl
 no-backslash Rfc5988 = refl
+
+-- what a number was told to ask for
+pub asked-known : {n : ℕ} {r : Asked} {e : Edition} → IsAsked n r → r ≡ Known e → numberOf e ≡ n
+asked-known {n} a q = subst (IsAsked n) q a
+
+pub asked-unknown : {n : ℕ} {r : Asked} → IsAsked n r → r ≡ Unknown → NoEdition n
+asked-unknown {n} a q = subst (IsAsked n) q a

@@ -4,12 +4,13 @@ use native.Mathlib.Omega.{arith}
 use mathlib.Core.Path.{_≡_, ap, subst, _∙_}
 use mathlib.Core.List.{List}
 use lib.ListN.{length}
-use Rattle.grammar.specs.Grammar.{rfc8288}
+use Rattle.octets.specs.Editions.{further}
+use Rattle.octets.specs.declared.editions.Edition.{Edition}
 use Rattle.grammar.specs.Records.{countParams, linkRoom, paramRoom}
-use Rattle.grammar.proofs.Editions.{admissible8288}
+use Rattle.grammar.proofs.Editions.{apart}
 use Rattle.grammar.proofs.Readings.{one-reading}
 use Rattle.outcomes.specs.Number.{limit}
-use Rattle.outcomes.specs.Read.{Read, ReadOut, not-derived, no-link-room, no-param-room, reads}
+use Rattle.outcomes.specs.Read.{ReadIn, ReadOut, not-derived, no-link-room, no-param-room, reads}
 use Rattle.kinds.specs.declared.Counts.{Counts}
 use Rattle.kinds.specs.declared.Place.{Place}
 use Rattle.answers.specs.declared.Refusal.the-variants.{NoLinkRoom, NoParamRoom}
@@ -25,31 +26,32 @@ use Rattle.filling.specs.Filling.{ReadingFits, TablesFilled}
 abbrev out : ReadAnswer → List ℕ → List ℕ → ReadOut
 out r L P = readOut (readNumbers r) L P
 
-module _ {s : List ℕ} {r : HeaderScan} (L P : List ℕ) (short : length s ≤ limit) (c : HeaderScanned s r) where
-  pub is-malformed : {p : Place} → r ≡ Malformed p → Read s L P (out (IsMalformed p) L P)
-  is-malformed e = go (subst (HeaderScanned s) e c)
+module _ (ed : Edition) {s : List ℕ} {r : HeaderScan} (L P : List ℕ) (short : length s ≤ limit)
+    (c : HeaderScanned (further ed) s r) where
+  pub is-malformed : {p : Place} → r ≡ Malformed p → ReadIn ed s L P (out (IsMalformed p) L P)
+  is-malformed e = go (subst (HeaderScanned (further ed) s) e c)
     where
-      go : {p : Place} → HeaderScanned s (Malformed p) → Read s L P (out (IsMalformed p) L P)
+      go : {p : Place} → HeaderScanned (further ed) s (Malformed p) → ReadIn ed s L P (out (IsMalformed p) L P)
       go (malformed-at h) = not-derived short h
 
   module _ {n : Counts} (e : r ≡ Counted n) where
-    counts : CountsOf s n
-    counts = go (subst (HeaderScanned s) e c)
+    counts : CountsOf (further ed) s n
+    counts = go (subst (HeaderScanned (further ed) s) e c)
       where
-        go : {n : Counts} → HeaderScanned s (Counted n) → CountsOf s n
+        go : {n : Counts} → HeaderScanned (further ed) s (Counted n) → CountsOf (further ed) s n
         go (counted k) = k
 
     -- the rooms, as the code asks for them
     module _ {x : ℕ} (a : x ≡ linkRoom L) where
-      pub few-link-slots : x < n .links → Read s L P (out (Refused NoLinkRoom) L P)
+      pub few-link-slots : x < n .links → ReadIn ed s L P (out (Refused NoLinkRoom) L P)
       few-link-slots h = no-link-room short (counts .reads) (omega (arith, counts .links))
 
       module _ {y : ℕ} (b : y ≡ paramRoom P) (h : n .links ≤ x) where
-        pub few-param-slots : y < n .params → Read s L P (out (Refused NoParamRoom) L P)
+        pub few-param-slots : y < n .params → ReadIn ed s L P (out (Refused NoParamRoom) L P)
         few-param-slots k =
             no-param-room short (counts .reads) (omega (arith, counts .links)) (omega (arith, counts .params))
 
-        pub fits : n .params ≤ y → ReadingFits s L P
+        pub fits : n .params ≤ y → ReadingFits (further ed) s L P
         fits k =
             record {
               reading = counts .reading;
@@ -58,9 +60,9 @@ module _ {s : List ℕ} {r : HeaderScan} (L P : List ℕ) (short : length s ≤ 
               param-room = omega (arith, counts .params);
             }
 
-        pub is-done : {L′ P′ : List ℕ} → n .params ≤ y → TablesFilled s L L′ P P′ → Read s L P (out (Done n) L′ P′)
+        pub is-done : {L′ P′ : List ℕ} → n .params ≤ y → TablesFilled (further ed) s L L′ P P′ → ReadIn ed s L P (out (Done n) L′ P′)
         is-done k f =
-            let same = one-reading rfc8288 admissible8288 s (counts .reading) (f .reading) (counts .reads) (f .reads) in
+            let same = one-reading (further ed) (apart ed) s (counts .reading) (f .reading) (counts .reads) (f .reads) in
             let u : n .links ≡ length (f .reading) = counts .links ∙ ap length same in
             let v : n .params ≡ countParams (f .reading) = counts .params ∙ ap countParams same in
             rw (u, v, f .links, f .params) (reads short (f .reads) (omega arith) (omega arith))

@@ -1,6 +1,5 @@
 // Reads a header into lent tables. The whole header is scanned and counted, the rooms are tested once, and then the records are
 // filled in; so a refusal leaves both tables as they were.
-ghost use Rattle.octets.specs.Editions.{further};
 ghost use Rattle.outcomes.specs.Read.{Read, ReadIn};
 ghost use Rattle.answers.specs.Read.{readNumbers, readOut};
 use answers::LIMIT;
