@@ -9,10 +9,10 @@ use lib.ListN.{List·getD-eq-default}
 use borrow.Author.Tests.{eqb-true}
 use Rattle.octets.specs.Sets.{isBlank, isToken, isHex, isTarget, isPlain, isEscapable}
 use Rattle.octets.proofs.Laws.{not-eqb}
-use Rattle.grammar.specs.Grammar.{rfc8288, isBare}
+use Rattle.grammar.specs.Grammar.{Extra, Admissible, isBare}
 use Rattle.grammar.specs.Machine as machine
 use Rattle.grammar.specs.Machine.{State, step, phaseOf, Open}
-use Rattle.grammar.proofs.Classes.{token-not-blank, blank-not-token}
+use Rattle.grammar.proofs.Classes.{token-not-blank, blank-not-token, extra-not-blank}
 use Rattle.grammar.proofs.Raise.{pick}
 use Rattle.phases.specs.Steps.{
   stuck,
@@ -21,77 +21,78 @@ use Rattle.phases.specs.Steps.{
   linkEndIn,
   nameEndIn,
   valueStartIn,
-  orToken,
+  orIn,
   stepsOn,
   stepIn,
   FollowsMachine,
 }
 
 -- the step of each phase
-pub on-gap : (c : ℕ) → stepIn 0 c ≡ firstOf 60 1 44 0 isBlank 0 c
-unfolding stepIn
-on-gap c = refl
+module _ (extra : Extra) (c : ℕ) where
+  pub on-gap : stepIn extra 0 c ≡ firstOf 60 1 44 0 isBlank 0 c
+  unfolding stepIn
+  on-gap = refl
 
-pub on-target : (c : ℕ) → stepIn 1 c ≡ firstOf 62 4 37 2 isTarget 1 c
-unfolding stepIn
-on-target c = refl
+  pub on-target : stepIn extra 1 c ≡ firstOf 62 4 37 2 isTarget 1 c
+  unfolding stepIn
+  on-target = refl
 
-pub on-percent : (c : ℕ) → stepIn 2 c ≡ cond (isHex c) 3 stuck
-unfolding stepIn
-on-percent c = refl
+  pub on-percent : stepIn extra 2 c ≡ cond (isHex c) 3 stuck
+  unfolding stepIn
+  on-percent = refl
 
-pub on-hex : (c : ℕ) → stepIn 3 c ≡ cond (isHex c) 1 stuck
-unfolding stepIn
-on-hex c = refl
+  pub on-hex : stepIn extra 3 c ≡ cond (isHex c) 1 stuck
+  unfolding stepIn
+  on-hex = refl
 
-pub on-after : (c : ℕ) → stepIn 4 c ≡ linkEndIn 4 c
-unfolding stepIn
-on-after c = refl
+  pub on-after : stepIn extra 4 c ≡ linkEndIn 4 c
+  unfolding stepIn
+  on-after = refl
 
-pub on-semi : (c : ℕ) → stepIn 5 c ≡ tokenOrBlank 6 5 c
-unfolding stepIn
-on-semi c = refl
+  pub on-semi : stepIn extra 5 c ≡ tokenOrBlank 6 5 c
+  unfolding stepIn
+  on-semi = refl
 
-pub on-name : (c : ℕ) → stepIn 6 c ≡ orToken (nameEndIn c) c 6
-unfolding stepIn
-on-name c = refl
+  pub on-name : stepIn extra 6 c ≡ orIn isToken (nameEndIn c) c 6
+  unfolding stepIn
+  on-name = refl
 
-pub on-named : (c : ℕ) → stepIn 7 c ≡ nameEndIn c
-unfolding stepIn
-on-named c = refl
+  pub on-named : stepIn extra 7 c ≡ nameEndIn c
+  unfolding stepIn
+  on-named = refl
 
-pub on-equals : (c : ℕ) → stepIn 8 c ≡ valueStartIn c
-unfolding stepIn
-on-equals c = refl
+  pub on-equals : stepIn extra 8 c ≡ valueStartIn extra c
+  unfolding stepIn
+  on-equals = refl
 
-pub on-bare : (c : ℕ) → stepIn 9 c ≡ orToken (linkEndIn 4 c) c 9
-unfolding stepIn
-on-bare c = refl
+  pub on-bare : stepIn extra 9 c ≡ orIn extra (orIn isToken (linkEndIn 4 c) c 9) c 9
+  unfolding stepIn
+  on-bare = refl
 
-pub on-quote : (c : ℕ) → stepIn 10 c ≡ firstOf 34 4 92 11 isPlain 10 c
-unfolding stepIn
-on-quote c = refl
+  pub on-quote : stepIn extra 10 c ≡ firstOf 34 4 92 11 isPlain 10 c
+  unfolding stepIn
+  on-quote = refl
 
-pub on-escape : (c : ℕ) → stepIn 11 c ≡ cond (isEscapable c) 10 stuck
-unfolding stepIn
-on-escape c = refl
+  pub on-escape : stepIn extra 11 c ≡ cond (isEscapable c) 10 stuck
+  unfolding stepIn
+  on-escape = refl
 
-on-dead : (c : ℕ) → stepIn stuck c ≡ stuck
-unfolding stepIn
-on-dead c = refl
+  on-dead : stepIn extra stuck c ≡ stuck
+  unfolding stepIn
+  on-dead = refl
 
 -- one number more is passed
 up : (k n : ℕ) → k ≤ n → (n ≡ k → ⊥) → suc k ≤ n
 up k n h e = omega arith
 
 -- from a number that is no phase's nothing leads on
-pub on-none : (n c : ℕ)
+pub on-none : (extra : Extra) (n c : ℕ)
     → ((((((((((((Unit {0} × (n ≡ 0 → ⊥)) × (n ≡ 1 → ⊥)) × (n ≡ 2 → ⊥)) × (n ≡ 3 → ⊥)) × (n ≡ 4 → ⊥)) × (n ≡ 5 → ⊥))
-    × (n ≡ 6 → ⊥)) × (n ≡ 7 → ⊥)) × (n ≡ 8 → ⊥)) × (n ≡ 9 → ⊥)) × (n ≡ 10 → ⊥)) × (n ≡ 11 → ⊥)) → stepIn n c ≡ stuck
+    × (n ≡ 6 → ⊥)) × (n ≡ 7 → ⊥)) × (n ≡ 8 → ⊥)) × (n ≡ 9 → ⊥)) × (n ≡ 10 → ⊥)) × (n ≡ 11 → ⊥)) → stepIn extra n c ≡ stuck
 unfolding stepIn
-on-none n x ((((((((((((_, a), b), c), d), e), f), g), h), i), j), k), l) =
+on-none extra n x ((((((((((((_, a), b), c), d), e), f), g), h), i), j), k), l) =
     let six : 6 ≤ n = up 5 n (up 4 n (up 3 n (up 2 n (up 1 n (up 0 n (omega arith) a) b) c) d) e) f in
-    List·getD-eq-default (stepsOn x) stuck (up 11 n (up 10 n (up 9 n (up 8 n (up 7 n (up 6 n six g) h) i) j) k) l)
+    List·getD-eq-default (stepsOn extra x) stuck (up 11 n (up 10 n (up 9 n (up 8 n (up 7 n (up 6 n six g) h) i) j) k) l)
 
 -- ---- tests that exclude each other may change places
 
@@ -126,32 +127,40 @@ token-not = not-eqb isToken
 
 -- ---- each step, in the machine's order of tests
 
-pub gap-step : (c : ℕ) → stepIn 0 c ≡ cond (isBlank c) 0 (cond (eqb c 44) 0 (cond (eqb c 60) 1 stuck))
+pub gap-step : (extra : Extra) (c : ℕ) → stepIn extra 0 c ≡ cond (isBlank c) 0 (cond (eqb c 44) 0 (cond (eqb c 60) 1 stuck))
 unfolding stepIn firstOf isBlank
-gap-step c =
+gap-step extra c =
     turned (eqb c 60) (eqb c 44) (isBlank c) 1 0 0 stuck (not-both c 60 44 refl) (blank-not 60 c refl) (blank-not 44 c refl)
 
-pub target-step : (c : ℕ) → stepIn 1 c ≡ cond (isTarget c) 1 (cond (eqb c 37) 2 (cond (eqb c 62) 4 stuck))
+pub target-step : (extra : Extra) (c : ℕ) → stepIn extra 1 c ≡ cond (isTarget c) 1 (cond (eqb c 37) 2 (cond (eqb c 62) 4 stuck))
 unfolding stepIn firstOf isTarget
-target-step c =
+target-step extra c =
     turned (eqb c 62) (eqb c 37) (isTarget c) 4 2 1 stuck (not-both c 62 37 refl) (target-not 62 c refl) (target-not 37 c refl)
 
 pub link-end-step : (b c : ℕ) → linkEndIn b c ≡ cond (isBlank c) b (cond (eqb c 59) 5 (cond (eqb c 44) 0 stuck))
 unfolding linkEndIn firstOf isBlank
 link-end-step b c = rotated (eqb c 59) (eqb c 44) (isBlank c) 5 0 b stuck (blank-not 59 c refl) (blank-not 44 c refl)
 
-pub semi-step : (c : ℕ) → stepIn 5 c ≡ cond (isBlank c) 5 (cond (isToken c) 6 stuck)
+pub semi-step : (extra : Extra) (c : ℕ) → stepIn extra 5 c ≡ cond (isBlank c) 5 (cond (isToken c) 6 stuck)
 unfolding stepIn tokenOrBlank
-semi-step c = swapped (isToken c) (isBlank c) 6 5 stuck (token-not-blank c)
+semi-step extra c = swapped (isToken c) (isBlank c) 6 5 stuck (token-not-blank c)
 
-pub equals-step : (c : ℕ) → stepIn 8 c ≡ cond (isBlank c) 8 (cond (eqb c 34) 10 (cond (isToken c) 9 stuck))
-unfolding stepIn valueStartIn tokenOrBlank isBlank
-equals-step c =
-    rotated (eqb c 34) (isToken c) (isBlank c) 10 9 8 stuck (blank-not 34 c refl) (blank-not-token c)
+-- a further octet leads to the phase of a bare value, where no token's octet and no blank stands
+or-further : (t b x : Bool) → cond (eqb (cond t 9 (cond b 8 stuck)) stuck) (cond x 9 stuck) (cond t 9 (cond b 8 stuck)) ≡ cond t 9 (cond b 8 (cond x 9 stuck))
+or-further true b x = refl
+or-further false true x = refl
+or-further false false x = refl
 
-pub quote-step : (c : ℕ) → stepIn 10 c ≡ cond (eqb c 34) 4 (cond (eqb c 92) 11 (cond (isPlain c) 10 stuck))
+pub equals-step : (extra : Extra) (c : ℕ)
+    → stepIn extra 8 c ≡ cond (isBlank c) 8 (cond (eqb c 34) 10 (cond (isToken c) 9 (cond (extra c) 9 stuck)))
+unfolding stepIn valueStartIn tokenOrBlank orIn isBlank
+equals-step extra c =
+    ap (cond (eqb c 34) 10) (or-further (isToken c) (isBlank c) (extra c))
+    ∙ rotated (eqb c 34) (isToken c) (isBlank c) 10 9 8 (cond (extra c) 9 stuck) (blank-not 34 c refl) (blank-not-token c)
+
+pub quote-step : (extra : Extra) (c : ℕ) → stepIn extra 10 c ≡ cond (eqb c 34) 4 (cond (eqb c 92) 11 (cond (isPlain c) 10 stuck))
 unfolding stepIn firstOf
-quote-step c = refl
+quote-step extra c = refl
 
 -- behind a name, blanks come first, and then what a whole link may be followed by
 pub name-end-step : (c : ℕ) → nameEndIn c ≡ cond (isBlank c) 7 (cond (eqb c 61) 8 (linkEndIn 4 c))
@@ -171,17 +180,17 @@ token-no-name-end : (c : ℕ) → isToken c ≡ true → nameEndIn c ≡ stuck
 unfolding nameEndIn isToken
 token-no-name-end c e = rw (token-not 61 c refl e, token-no-end 7 c e) refl
 
-or-token-step : (e c p : ℕ) → (isToken c ≡ true → e ≡ stuck) → orToken e c p ≡ cond (isToken c) p e
-unfolding orToken
-or-token-step e c p h = go (isToken c) refl
+or-in-step : (f : ℕ → Bool) (e c p : ℕ) → (f c ≡ true → e ≡ stuck) → orIn f e c p ≡ cond (f c) p e
+unfolding orIn
+or-in-step f e c p h = go (f c) refl
   where
     end : (x : Bool) → eqb e stuck ≡ x → cond x stuck e ≡ e
-    end true f = sym (eqb-true e stuck f)
-    end false f = refl
+    end true q = sym (eqb-true e stuck q)
+    end false q = refl
 
-    go : (x : Bool) → isToken c ≡ x → cond (eqb e stuck) (cond x p stuck) e ≡ cond x p e
-    go true f = rw (h f) refl
-    go false f = end (eqb e stuck) refl
+    go : (x : Bool) → f c ≡ x → cond (eqb e stuck) (cond x p stuck) e ≡ cond x p e
+    go true q = rw (h q) refl
+    go false q = end (eqb e stuck) refl
 
 -- ---- the machine's step, as its phase
 
@@ -196,37 +205,65 @@ name-end-phase o n e c =
     ∙ pick phaseOf (isBlank c) refl
     (pick phaseOf (eqb c 61) refl (next-phase (machine.add (machine.flag n e) o) c))
 
--- a test that further octets might pass, where there are none
-none-further : (b : Bool) → b ≡ b || false
-none-further true = refl
-none-further false = refl
+pub name-step : (extra : Extra) (c : ℕ) → stepIn extra 6 c ≡ cond (isToken c) 6 (nameEndIn c)
+name-step extra c = on-name extra c ∙ or-in-step isToken (nameEndIn c) c 6 (token-no-name-end c)
 
-pub name-step : (c : ℕ) → stepIn 6 c ≡ cond (isToken c) 6 (nameEndIn c)
-name-step c = on-name c ∙ or-token-step (nameEndIn c) c 6 (token-no-name-end c)
+module _ (extra : Extra) (apart : Admissible extra) where
+  -- a further octet is no token's, and none that may end a bare value
+  further-no-end : (c : ℕ) → extra c ≡ true → cond (isToken c) 9 (linkEndIn 4 c) ≡ stuck
+  unfolding linkEndIn firstOf
+  further-no-end c e =
+      rw (
+        apart .token c e,
+        not-eqb extra 59 c (apart .semicolon) e,
+        not-eqb extra 44 c (apart .comma) e,
+        extra-not-blank extra apart c e,
+      ) refl
 
-pub bare-step : (c : ℕ) → stepIn 9 c ≡ cond (isToken c) 9 (linkEndIn 4 c)
-bare-step c = on-bare c ∙ or-token-step (linkEndIn 4 c) c 9 (token-no-end 4 c)
+  -- either test leads to the phase of a bare value
+  either-bare : (t x : Bool) (e : ℕ) → (x ≡ true → t ≡ false) → cond x 9 (cond t 9 e) ≡ cond t 9 (cond x 9 e)
+  either-bare true true e h = refl
+  either-bare true false e h = refl
+  either-bare false x e h = refl
+
+  pub bare-step : (c : ℕ) → stepIn extra 9 c ≡ cond (isToken c) 9 (cond (extra c) 9 (linkEndIn 4 c))
+  bare-step c =
+      on-bare extra c
+      ∙ ap (λ (e : ℕ). orIn extra e c 9) (or-in-step isToken (linkEndIn 4 c) c 9 (token-no-end 4 c))
+      ∙ or-in-step extra (cond (isToken c) 9 (linkEndIn 4 c)) c 9 (further-no-end c)
+      ∙ either-bare (isToken c) (extra c) (linkEndIn 4 c) (apart .token c)
+
+  -- one test for both
+  both-bare : (t x : Bool) (e : ℕ) → cond t 9 (cond x 9 e) ≡ cond (t || x) 9 e
+  both-bare true x e = refl
+  both-bare false x e = refl
+
+  phase-in : (st : State) (i c : ℕ) → stepIn extra (phaseOf st) c ≡ phaseOf (step extra st i c)
+  phase-in (machine.gap ls) i c =
+      gap-step extra c ∙ pick phaseOf (isBlank c) refl (pick phaseOf (eqb c 44) refl (pick phaseOf (eqb c 60) refl refl))
+  phase-in (machine.target ls a) i c =
+      target-step extra c ∙ pick phaseOf (isTarget c) refl (pick phaseOf (eqb c 37) refl (pick phaseOf (eqb c 62) refl refl))
+  phase-in (machine.percent ls a) i c = on-percent extra c ∙ pick phaseOf (isHex c) refl refl
+  phase-in (machine.hex ls a) i c = on-hex extra c ∙ pick phaseOf (isHex c) refl refl
+  phase-in (machine.after o) i c = on-after extra c ∙ next-phase o c
+  phase-in (machine.semi o) i c = semi-step extra c ∙ pick phaseOf (isBlank c) refl (pick phaseOf (isToken c) refl refl)
+  phase-in (machine.name o n) i c = name-step extra c ∙ pick phaseOf (isToken c) refl (name-end-phase o n i c)
+  phase-in (machine.named o n e) i c = on-named extra c ∙ name-end-phase o n e c
+  phase-in (machine.equals o n e) i c =
+      equals-step extra c
+      ∙ pick phaseOf (isBlank c) refl
+      (pick phaseOf (eqb c 34) refl (pick phaseOf (isToken c) refl (pick phaseOf (extra c) refl refl)))
+  phase-in (machine.bare o n e v) i c =
+      bare-step c
+      ∙ pick phaseOf (isToken c) refl
+      (pick phaseOf (extra c) refl (next-phase (machine.add (machine.param n e v i 1) o) c))
+  phase-in (machine.wide o n e v) i c =
+      bare-step c ∙ both-bare (isToken c) (extra c) (linkEndIn 4 c)
+      ∙ pick phaseOf (isBare extra c) refl (next-phase (machine.add (machine.param n e v i 3) o) c)
+  phase-in (machine.quote o n e v) i c =
+      quote-step extra c ∙ pick phaseOf (eqb c 34) refl (pick phaseOf (eqb c 92) refl (pick phaseOf (isPlain c) refl refl))
+  phase-in (machine.escape o n e v) i c = on-escape extra c ∙ pick phaseOf (isEscapable c) refl refl
+  phase-in machine.dead i c = on-dead extra c
 
 pub phase-step : FollowsMachine
-phase-step (machine.gap ls) i c =
-    gap-step c ∙ pick phaseOf (isBlank c) refl (pick phaseOf (eqb c 44) refl (pick phaseOf (eqb c 60) refl refl))
-phase-step (machine.target ls a) i c =
-    target-step c ∙ pick phaseOf (isTarget c) refl (pick phaseOf (eqb c 37) refl (pick phaseOf (eqb c 62) refl refl))
-phase-step (machine.percent ls a) i c = on-percent c ∙ pick phaseOf (isHex c) refl refl
-phase-step (machine.hex ls a) i c = on-hex c ∙ pick phaseOf (isHex c) refl refl
-phase-step (machine.after o) i c = on-after c ∙ next-phase o c
-phase-step (machine.semi o) i c = semi-step c ∙ pick phaseOf (isBlank c) refl (pick phaseOf (isToken c) refl refl)
-phase-step (machine.name o n) i c =
-    name-step c ∙ pick phaseOf (isToken c) refl (name-end-phase o n i c)
-phase-step (machine.named o n e) i c = on-named c ∙ name-end-phase o n e c
-phase-step (machine.equals o n e) i c =
-    equals-step c ∙ pick phaseOf (isBlank c) refl (pick phaseOf (eqb c 34) refl (pick phaseOf (isToken c) refl refl))
-phase-step (machine.bare o n e v) i c =
-    bare-step c ∙ pick phaseOf (isToken c) refl (next-phase (machine.add (machine.param n e v i 1) o) c)
-phase-step (machine.wide o n e v) i c =
-    bare-step c ∙ ap (λ b. cond b 9 (linkEndIn 4 c)) (none-further (isToken c))
-    ∙ pick phaseOf (isBare rfc8288 c) refl (next-phase (machine.add (machine.param n e v i 3) o) c)
-phase-step (machine.quote o n e v) i c =
-    quote-step c ∙ pick phaseOf (eqb c 34) refl (pick phaseOf (eqb c 92) refl (pick phaseOf (isPlain c) refl refl))
-phase-step (machine.escape o n e v) i c = on-escape c ∙ pick phaseOf (isEscapable c) refl refl
-phase-step machine.dead i c = on-dead c
+phase-step = phase-in

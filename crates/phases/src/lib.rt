@@ -2,8 +2,10 @@
 // arrived.
 ghost use mathlib.Core.Path.{_≡_};
 ghost use mathlib.Core.Bool.{cond};
+ghost use Rattle.octets.specs.Editions.{further};
 ghost use Rattle.octets.specs.Member.{isIn};
-ghost use Rattle.phases.specs.Steps.{firstOf, tokenOrBlank, linkEndIn, nameEndIn, valueStartIn, orToken, stepIn, FollowsMachine};
+ghost use Rattle.octets.specs.Sets.{isToken};
+ghost use Rattle.phases.specs.Steps.{firstOf, tokenOrBlank, linkEndIn, nameEndIn, valueStartIn, orIn, stepIn, FollowsMachine};
 use octets::editions::Edition;
 use octets::editions::is_further;
 use octets::sets::Set;
@@ -99,7 +101,7 @@ fn name_end(c: u8) -> usize
 
 // `to` where it leads on, else a bare value's phase, for an octet that the edition allows there beside a token's.
 fn or_further(edition: Edition, to: usize, c: u8) -> usize
-    ensures { λ r. ⌜ r ≡ orFurther (further edition) to c ⌝ }
+    ensures { λ r. ⌜ r ≡ orIn (further edition) to c 9 ⌝ }
 {
     if to != STUCK {
         return to;
@@ -122,7 +124,7 @@ fn value_start(edition: Edition, c: u8) -> usize
 
 // `end` where it leads on, else the token's phase, for an octet of a token.
 fn or_token(end: usize, c: u8, token: usize) -> usize
-    ensures { λ r. ⌜ r ≡ orToken end c token ⌝ }
+    ensures { λ r. ⌜ r ≡ orIn isToken end c token ⌝ }
 {
     if end != STUCK {
         return end;

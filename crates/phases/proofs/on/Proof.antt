@@ -1,5 +1,6 @@
 -- Each arm is the step of its phase.
 use mathlib.Core.Path.{sym}
+use Rattle.octets.specs.Editions.{further}
 use Rattle.phases.proofs.Steps.{
   on-gap,
   on-target,
@@ -61,6 +62,9 @@ link-end-requires-2 c κs = search needs
 or-token-requires-2 : tie.Need-or-token-requires-2
 or-token-requires-2 c κs = search needs
 
+or-further-requires : tie.Need-or-further-requires
+or-further-requires c κs = search needs
+
 first-of-requires-3 : tie.Need-first-of-requires-3
 first-of-requires-3 c κs = search needs
 
@@ -71,43 +75,43 @@ only-requires-3 : tie.Need-only-requires-3
 only-requires-3 c κs = search needs
 
 returns : tie.Need-returns
-returns c = cc (on-gap (c .before .before .args .c))
+returns c = cc (on-gap (further (c .before .before .args .edition)) (c .before .before .args .c))
 
 returns-2 : tie.Need-returns-2
-returns-2 c = cc (on-target (c .before .before .args .c))
+returns-2 c = cc (on-target (further (c .before .before .args .edition)) (c .before .before .args .c))
 
 returns-3 : tie.Need-returns-3
-returns-3 c = cc (on-percent (c .before .before .before .args .c))
+returns-3 c = cc (on-percent (further (c .before .before .before .args .edition)) (c .before .before .before .args .c))
 
 returns-4 : tie.Need-returns-4
-returns-4 c = cc (on-hex (c .before .before .before .args .c))
+returns-4 c = cc (on-hex (further (c .before .before .before .args .edition)) (c .before .before .before .args .c))
 
 returns-5 : tie.Need-returns-5
-returns-5 c = cc (on-after (c .before .before .args .c))
+returns-5 c = cc (on-after (further (c .before .before .args .edition)) (c .before .before .args .c))
 
 returns-6 : tie.Need-returns-6
-returns-6 c = cc (on-semi (c .before .before .args .c))
+returns-6 c = cc (on-semi (further (c .before .before .args .edition)) (c .before .before .args .c))
 
 returns-7 : tie.Need-returns-7
-returns-7 c = cc (on-name (c .before .before .before .args .c))
+returns-7 c = cc (on-name (further (c .before .before .before .args .edition)) (c .before .before .before .args .c))
 
 returns-8 : tie.Need-returns-8
-returns-8 c = cc (on-named (c .before .before .args .c))
+returns-8 c = cc (on-named (further (c .before .before .args .edition)) (c .before .before .args .c))
 
 returns-9 : tie.Need-returns-9
-returns-9 c = cc (on-equals (c .before .before .args .c))
+returns-9 c = cc (on-equals (further (c .before .before .args .edition)) (c .before .before .args .c))
 
 returns-10 : tie.Need-returns-10
-returns-10 c = cc (on-bare (c .before .before .before .args .c))
+returns-10 c = cc (on-bare (further (c .before .before .before .before .args .edition)) (c .before .before .before .before .args .c))
 
 returns-11 : tie.Need-returns-11
-returns-11 c = cc (on-quote (c .before .before .args .c))
+returns-11 c = cc (on-quote (further (c .before .before .args .edition)) (c .before .before .args .c))
 
 returns-12 : tie.Need-returns-12
-returns-12 c = cc (on-escape (c .before .before .before .args .c))
+returns-12 c = cc (on-escape (further (c .before .before .before .args .edition)) (c .before .before .before .args .c))
 
 returns-13 : tie.Need-returns-13
-returns-13 c = sym (on-none (c .before .args .phase) (c .before .args .c) (c .match .rest))
+returns-13 c = sym (on-none (further (c .before .args .edition)) (c .before .args .phase) (c .before .args .c) (c .match .rest))
 
 pub on-spec : {M : Type 1} → statement M
 on-spec =
@@ -127,6 +131,7 @@ on-spec =
     value-start-requires
     link-end-requires-2
     or-token-requires-2
+    or-further-requires
     first-of-requires-3
     is-in-requires
     only-requires-3
