@@ -7,7 +7,7 @@ use mathlib.Core.List.{List, [], _∷_}
 use lib.Dec.{eqb}
 use lib.ListN.{length, take, getD}
 use lib.Seq.{take-suc}
-use Rattle.grammar.specs.Grammar.{rfc8288}
+use Rattle.grammar.specs.Grammar.{Extra, Admissible}
 use Rattle.grammar.specs.Machine.{
   State,
   gap,
@@ -49,24 +49,24 @@ dead-phase (quote o n e v) = refl
 dead-phase (escape o n e v) = refl
 dead-phase dead = refl
 
-module _ (s : List ℕ) (st : State) (i : ℕ) where
+module _ {extra : Extra} (apart : Admissible extra) (s : List ℕ) (st : State) (i : ℕ) where
   -- one octet more
-  one-more : {j q : ℕ} → j < length s → phaseOf (run rfc8288 st i (take j s)) ≡ q
-      → phaseOf (run rfc8288 st i (take (suc j) s)) ≡ stepIn q (getD s j 0)
+  one-more : {j q : ℕ} → j < length s → phaseOf (run extra st i (take j s)) ≡ q
+      → phaseOf (run extra st i (take (suc j) s)) ≡ stepIn extra q (getD s j 0)
   one-more {j} h e =
-      ap (λ (u : List ℕ). phaseOf (run rfc8288 st i u)) (take-suc s j 0 h)
-      ∙ ap phaseOf (run-append rfc8288 (take j s) (getD s j 0 ∷ []) st i)
-      ∙ sym (phase-step (run rfc8288 st i (take j s)) (i + length (take j s)) (getD s j 0))
-      ∙ ap (λ (p : ℕ). stepIn p (getD s j 0)) e
+      ap (λ (u : List ℕ). phaseOf (run extra st i u)) (take-suc s j 0 h)
+      ∙ ap phaseOf (run-append extra (take j s) (getD s j 0 ∷ []) st i)
+      ∙ sym (phase-step extra apart (run extra st i (take j s)) (i + length (take j s)) (getD s j 0))
+      ∙ ap (λ (p : ℕ). stepIn extra p (getD s j 0)) e
 
-  pub machine-led : {p q k : ℕ} → Leads s p 0 q k → phaseOf st ≡ p → phaseOf (run rfc8288 st i (take k s)) ≡ q
+  pub machine-led : {p q k : ℕ} → Leads extra s p 0 q k → phaseOf st ≡ p → phaseOf (run extra st i (take k s)) ≡ q
   machine-led here e = e
   machine-led (further l h f a) e = one-more h (machine-led l e) ∙ f
 
-  pub machine-halts : {p k : ℕ} → Halts s p 0 k → phaseOf st ≡ p → phaseOf (run rfc8288 st i (take (suc k) s)) ≡ stuck
+  pub machine-halts : {p k : ℕ} → Halts extra s p 0 k → phaseOf st ≡ p → phaseOf (run extra st i (take (suc k) s)) ≡ stuck
   machine-halts x e = one-more (x .inside) (machine-led (x .leads) e) ∙ x .nowhere
 
 -- a phase leads to phases only
-pub leads-alive : {s : List ℕ} {p a q k : ℕ} → Leads s p a q k → (p ≡ stuck → ⊥) → q ≡ stuck → ⊥
+pub leads-alive : {extra : Extra} {s : List ℕ} {p a q k : ℕ} → Leads extra s p a q k → (p ≡ stuck → ⊥) → q ≡ stuck → ⊥
 leads-alive here n = n
 leads-alive (further l h f a) n = a

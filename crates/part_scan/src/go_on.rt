@@ -1,6 +1,8 @@
 // From a phase on: past the octets that leave it as it is, and past the one that doesn't.
 ghost use Prim.Native.Nat.{_≤_};
 ghost use lib.ListN.{length};
+ghost use Rattle.grammar.specs.Grammar.{Extra};
+ghost use Rattle.octets.specs.Editions.{further};
 ghost use Rattle.part_scan.specs.Moved.{Stays, Moved};
 use cursor::Cursor;
 use kinds::Place;
@@ -14,10 +16,10 @@ pub enum Move {
     To(usize, Cursor),
 }
 
-// Inside quotes, past octets that stand for themselves and past pairs.
+// Inside quotes, past octets that stand for themselves and past pairs, as in every edition.
 fn past_quoted(s: &[u8], from: Cursor) -> Cursor
     requires { ⌜ from .at .0 ≤ length (now s) ⌝ }
-    ensures { λ r. ⌜ Stays (now (s .entry)) 10 (from .at .0) (r .at .0) ⌝ }
+    ensures { λ r. ⌜ ((extra : Extra) → Stays extra (now (s .entry)) 10 (from .at .0) (r .at .0)) ⌝ }
 {
     let mut c = from.past_plain(s);
     while c.sees(s, b'\\') {

@@ -1,4 +1,5 @@
 // A part of a header, judged octet by octet from the phase on in which the part before it ended.
+ghost use Rattle.octets.specs.Editions.{further};
 ghost use Rattle.part_scan.specs.Moved.{PartScanned};
 use crate::go_on::Move;
 use crate::go_on::go_on;

@@ -4,15 +4,16 @@ use native.Mathlib.Omega.{arith}
 use mathlib.Core.Path.{sym, subst}
 use lib.ListN.{length}
 use borrow.Author.Needs.{needs}
+use Rattle.octets.specs.Editions.{further}
 use Rattle.part_scan.proofs.Leading.{SoFar, none-yet, goes-through, gets-stuck, is-further, so-further}
 use Rattle.part_scan.proofs.scan_part.Statement.{statement}
 use Rattle.part_scan.proofs.scan_part.Tie as tie
 
 abbrev Inv-loop : tie.InvT-loop
-Inv-loop part from phase₀ c₀ phase c = SoFar part from phase (c .at .0)
+Inv-loop edition part from phase₀ c₀ phase c = SoFar (further edition) part from phase (c .at .0)
 
 abbrev μ-loop : tie.MeasureT-loop
-μ-loop part from phase₀ c₀ phase c = length part - c .at .0
+μ-loop edition part from phase₀ c₀ phase c = length part - c .at .0
 
 start-requires : tie.Need-start-requires Inv-loop μ-loop
 start-requires c κs = search needs
@@ -20,7 +21,7 @@ start-requires c κs = search needs
 loop-holds : tie.Need-loop-holds Inv-loop μ-loop
 loop-holds c =
     let a = c .before .before .args in
-    subst (λ (i : ℕ). SoFar (a .part .now) (a .from) (a .from) i) (sym (c .start .ensures)) (none-yet _ _)
+    subst (λ (i : ℕ). SoFar (further (a .edition)) (a .part .now) (a .from) (a .from) i) (sym (c .start .ensures)) (none-yet _ _ _)
 
 go-on-requires : tie.Need-go-on-requires Inv-loop μ-loop
 go-on-requires c κs = c .loop .inv .inside

@@ -1,4 +1,6 @@
 -- In each phase, the octets that leave it and then one more.
+use Rattle.octets.specs.Editions.{further}
+use Rattle.grammar.proofs.Editions.{apart}
 use Rattle.part_scan.proofs.Leading.{
   blank-gap,
   blank-after,
@@ -67,7 +69,7 @@ past-quoted-requires : tie.Need-past-quoted-requires
 past-quoted-requires c κs = search needs
 
 behind-requires-9 : tie.Need-behind-requires-9
-behind-requires-9 c κs = search needs
+behind-requires-9 c κs = (c .past-quoted .ensures) (further (c .before .before .before .args .edition)) .inside
 
 behind-requires-10 : tie.Need-behind-requires-10
 behind-requires-10 c κs = search needs
@@ -94,10 +96,10 @@ returns-7 : tie.Need-returns-7
 returns-7 c = run-move (c .before .before .match .keys7) blank-equals (c .before .past-blanks5 .ensures) (c .behind7 .ensures)
 
 returns-8 : tie.Need-returns-8
-returns-8 c = run-move (c .before .before .match .keys8) token-bare (c .before .past-token2 .ensures) (c .behind8 .ensures)
+returns-8 c = run-move (c .before .before .match .keys8) (token-bare (apart (c .before .before .before .before .args .edition))) (c .before .past-token2 .ensures) (c .behind8 .ensures)
 
 returns-9 : tie.Need-returns-9
-returns-9 c = quoted-move (c .before .before .match .keys9) (c .before .past-quoted .ensures) (c .behind9 .ensures)
+returns-9 c = quoted-move (c .before .before .match .keys9) ((c .before .past-quoted .ensures) _) (c .behind9 .ensures)
 
 returns-10 : tie.Need-returns-10
 returns-10 c = search needs
