@@ -4,7 +4,7 @@ ghost use mathlib.Core.Path.{_≡_};
 ghost use Prim.Native.Nat.{_+_, _≤_, suc, min};
 ghost use lib.ListN.{length};
 ghost use Rattle.outcomes.specs.Number.{limit};
-ghost use Rattle.outcomes.specs.Feeding.{start, Feeds, Finishes};
+ghost use Rattle.outcomes.specs.Feeding.{start, movedTo, FeedsIn, Feeds, FinishesIn, Finishes};
 ghost use Rattle.answers.specs.Read.{readNumbers, readOut};
 ghost use Rattle.answers.specs.Feed.{feedNumbers, feedOut, stateOf};
 ghost use Rattle.feeding.specs.Taking.{Takes};
@@ -49,7 +49,7 @@ fn total_with(before: usize, more: usize) -> usize
 
 // The state behind a refusal: its edition and phase stay, and only the total and the place move.
 fn moved(state: Feeding, total: usize, place: usize) -> Feeding
-    ensures { λ r. ⌜ stateOf r ≡ record { edition = state .edition; phase = state .phase; total = total; place = place } ⌝ }
+    ensures { λ r. ⌜ stateOf r ≡ movedTo (stateOf state) (state .phase) total place ⌝ }
 {
     Feeding {
         edition: state.edition,
@@ -72,7 +72,7 @@ fn whole(part: &[u8]) -> Span
 // A part behind octets that begin some header, for which there is room.
 fn take(edition: Edition, state: Feeding, part: &[u8], buffer: &mut [u8]) -> FeedAnswer
     requires { ⌜ Takes (stateOf state) (now part) (now buffer) ⌝ }
-    ensures { λ r. ⌜ Feeds (stateOf state) (now (part .entry)) (now (buffer .entry))
+    ensures { λ r. ⌜ FeedsIn (stateOf state) (now (part .entry)) (now (buffer .entry)) edition
         (feedOut (feedNumbers r) (now (buffer .exit))) (stateOf (feedNumbers r .next)) ⌝ }
 {
     let before = state.total;
@@ -96,7 +96,7 @@ fn take(edition: Edition, state: Feeding, part: &[u8], buffer: &mut [u8]) -> Fee
 
 // One part more. Within the limit, the place lies before the total just if the octets so far begin no header.
 fn feed_in(edition: Edition, state: Feeding, part: &[u8], buffer: &mut [u8]) -> FeedAnswer
-    ensures { λ r. ⌜ Feeds (stateOf state) (now (part .entry)) (now (buffer .entry))
+    ensures { λ r. ⌜ FeedsIn (stateOf state) (now (part .entry)) (now (buffer .entry)) edition
         (feedOut (feedNumbers r) (now (buffer .exit))) (stateOf (feedNumbers r .next)) ⌝ }
 {
     let before = state.total;
@@ -133,7 +133,7 @@ fn finish_in(
     links: &mut [usize],
     params: &mut [usize],
 ) -> ReadAnswer
-    ensures { λ r. ⌜ Finishes (stateOf state) (now (gathered .entry)) (now (links .entry)) (now (params .entry))
+    ensures { λ r. ⌜ FinishesIn (stateOf state) (now (gathered .entry)) (now (links .entry)) (now (params .entry)) edition
         (readOut (readNumbers r) (now (links .exit)) (now (params .exit))) ⌝ }
 {
     let total = state.total;

@@ -43,19 +43,19 @@ module _ (ed : Edition) {st : Feeding} {part buffer octets b c : List ℕ} where
   same-next (remembered _ _ _) (small-buffer _) e f x y = absurd (omega arith)
   same-next (remembered _ _ _) (too-long _ _) e f x y = absurd (omega arith)
   same-next (remembered _ _ _) (remembered _ _ _) e f x y = refl
-  same-next (remembered _ _ _) (faulty _ _ _ _) e f x y = ap (λ (k : ℕ). movedTo st part buffer (st .phase) (st .total + length part) k) f
+  same-next (remembered _ _ _) (faulty _ _ _ _) e f x y = ap (λ (k : ℕ). movedTo st (st .phase) (st .total + length part) k) f
   same-next (remembered _ _ _) (stored _ _ _) e f x y = absurd (omega arith)
   same-next (faulty _ _ _ _) (small-buffer _) e f x y = absurd (omega arith)
   same-next (faulty _ _ _ _) (too-long _ _) e f x y = absurd (omega arith)
-  same-next (faulty _ _ _ _) (remembered _ _ _) e f x y = ap (λ (k : ℕ). movedTo st part buffer (st .phase) (st .total + length part) k) f
-  same-next (faulty _ _ _ _) (faulty _ _ _ _) e f x y = ap (λ (k : ℕ). movedTo st part buffer (st .phase) (st .total + length part) k) f
+  same-next (faulty _ _ _ _) (remembered _ _ _) e f x y = ap (λ (k : ℕ). movedTo st (st .phase) (st .total + length part) k) f
+  same-next (faulty _ _ _ _) (faulty _ _ _ _) e f x y = ap (λ (k : ℕ). movedTo st (st .phase) (st .total + length part) k) f
   same-next (faulty _ _ _ _) (stored _ _ _) e f x y = absurd (omega arith)
   same-next (stored _ _ _) (small-buffer _) e f x y = absurd (omega arith)
   same-next (stored _ _ _) (too-long _ _) e f x y = absurd (omega arith)
   same-next (stored _ _ _) (remembered _ _ _) e f x y = absurd (omega arith)
   same-next (stored _ _ _) (faulty _ _ _ _) e f x y = absurd (omega arith)
   same-next (stored _ s _) (stored _ _ _) e f x y =
-      ap (λ (p : ℕ). movedTo st part buffer p (st .total + length part) (st .total + length part))
+      ap (λ (p : ℕ). movedTo st p (st .total + length part) (st .total + length part))
       (phase-told x refl s ∙ sym (phase-told y refl s))
 
 -- of a state and a buffer that are right for some octets, a feed has one answer and one next state

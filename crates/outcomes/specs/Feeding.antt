@@ -43,24 +43,24 @@ pub data Holds (e : Edition) (fed buffer : List ℕ) : Feeding → Type 0 where
 abbrev pub start : ℕ → Feeding
 start n = record { edition = n; phase = phaseOf (gap []); total = 0; place = 0 }
 
+-- the state with another phase, total and place: its edition stays
+abbrev pub movedTo : Feeding → ℕ → ℕ → ℕ → Feeding
+movedTo st p n k = record { edition = st .edition; phase = p; total = n; place = k }
+
 -- a feed on the state st, of one part, with a buffer
 module _ (st : Feeding) (part buffer : List ℕ) where
-  -- the state with this phase, total and place: its edition stays
-  abbrev pub movedTo : ℕ → ℕ → ℕ → Feeding
-  movedTo p n k = record { edition = st .edition; phase = p; total = n; place = k }
-
   -- What it answers and leaves, in an edition that there is, whatever the state and the buffer are otherwise. Where no fault is
   -- remembered and the total stays within the limit, it is free whether the part is faulty or stored, and so is what these cases take
   -- in braces: the place of the fault in the part, and the next phase. Nothing else is free.
   pub data AnyFeed : FeedOut → Feeding → Type 0 where
     small-buffer : length buffer < limit → AnyFeed (unstored buffer noOutputRoom 0) st
     too-long : limit ≤ length buffer → limit < st .total + length part
-        → AnyFeed (unstored buffer tooLong 0) (movedTo (st .phase) (suc limit) (st .place))
+        → AnyFeed (unstored buffer tooLong 0) (movedTo st (st .phase) (suc limit) (st .place))
     remembered : limit ≤ length buffer → st .total + length part ≤ limit → st .place < st .total
-        → AnyFeed (unstored buffer malformedHeader (st .place)) (movedTo (st .phase) (st .total + length part) (st .place))
+        → AnyFeed (unstored buffer malformedHeader (st .place)) (movedTo st (st .phase) (st .total + length part) (st .place))
     faulty : {k : ℕ} → limit ≤ length buffer → st .total + length part ≤ limit → st .total ≤ st .place → k < length part
         → AnyFeed (unstored buffer malformedHeader (st .total + k))
-        (movedTo (st .phase) (st .total + length part) (st .total + k))
+        (movedTo st (st .phase) (st .total + length part) (st .total + k))
     stored : {p : ℕ} → limit ≤ length buffer → st .total + length part ≤ limit → st .total ≤ st .place
         → AnyFeed
         (record {
@@ -68,7 +68,7 @@ module _ (st : Feeding) (part buffer : List ℕ) where
           place = 0;
           buffer = take (st .total) buffer ++ part ++ drop (st .total + length part) buffer;
         })
-        (movedTo p (st .total + length part) (st .total + length part))
+        (movedTo st p (st .total + length part) (st .total + length part))
 
   -- What a feed promises in the edition e: of a state and a buffer as they were handed out, the outcome on all octets, and again such a
   -- state and buffer; of all others what holds of any.

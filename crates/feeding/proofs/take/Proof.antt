@@ -5,7 +5,7 @@ use mathlib.Core.Path.{sym, ap, subst, _∙_}
 use lib.ListN.{length}
 use lib.Seq.{sets}
 use borrow.Author.Needs.{needs}
-use Rattle.outcomes.specs.Feeding.{Feeds}
+use Rattle.outcomes.specs.Feeding.{FeedsIn}
 use Rattle.feeding.proofs.Feeding.{all-of, scan-stuck, scan-through, gets-stuck, goes-on}
 use Rattle.feeding.proofs.take.Statement.{statement}
 use Rattle.feeding.proofs.take.Tie as tie
@@ -46,8 +46,8 @@ returns : tie.Need-returns
 returns c =
     let b1 = c .before .before .before .before .before in
     let a = b1 .before .before .before in
-    subst (Feeds _ _ _ _) (sym (c .moved .ensures))
-    (gets-stuck (a .pre) (scan-stuck (b1 .scan-part .ensures) (c .before .before .before .at .given .1)))
+    subst (FeedsIn _ _ _ _ _) (sym (c .moved .ensures))
+    (gets-stuck _ (a .pre) (scan-stuck (b1 .scan-part .ensures) (c .before .before .before .at .given .1)))
 
 same-length : tie.Need-same-length
 same-length c = search needs
@@ -62,7 +62,7 @@ returns-2 c =
     ∙ ap (sets (a .args .buffer .now) (a .args .state .total))
     (all-of (a .args .part .now) (b1 .whole .ensures .0) (b1 .whole .ensures .1))
     in
-    rw new (goes-on (a .pre) (scan-through (b2 .scan-part .ensures) (b1 .before .before .phase .given .1)))
+    rw new (goes-on _ (a .pre) (scan-through (b2 .scan-part .ensures) (b1 .before .before .phase .given .1)))
 
 pub take-spec : {M : Type 1} → statement M
 take-spec =
