@@ -8,6 +8,7 @@ use mathlib.Core.List.{List, [], _∷_}
 use borrow.Author.Tests.{not-true}
 use Rattle.octets.proofs.Octets.{both}
 use Rattle.grammar.specs.Link.{Param}
+use Rattle.grammar.specs.Grammar.{Extra}
 use Rattle.grammar.specs.Kept.{nameOf, among, isOnce, codeOf}
 use Rattle.tables.specs.Table.{paramAt, paramsFrom}
 use Rattle.tables.specs.Good.{Each, each-none, each-more, onceEach, GoodParam}
@@ -23,26 +24,26 @@ use Rattle.part_check.proofs.Deciding.{is-so, not-so}
 abbrev repeats : List ℕ → List (List ℕ) → Param → Bool
 repeats s earlier p = isOnce (nameOf s p) && among earlier (nameOf s p)
 
-record FirstParam (s : List ℕ) (earlier : List (List ℕ)) (p : Param) (ps : List Param) : Type 0 where
-  good : GoodParam s p
+record FirstParam (extra : Extra) (s : List ℕ) (earlier : List (List ℕ)) (p : Param) (ps : List Param) : Type 0 where
+  good : GoodParam extra s p
   new : repeats s earlier p ≡ false
-  rest : GoodParams s (nameOf s p ∷ earlier) ps
+  rest : GoodParams extra s (nameOf s p ∷ earlier) ps
 
-module _ {s : List ℕ} {earlier : List (List ℕ)} {p : Param} {ps : List Param} where
-  split : GoodParams s earlier (p ∷ ps) → FirstParam s earlier p ps
+module _ {extra : Extra} {s : List ℕ} {earlier : List (List ℕ)} {p : Param} {ps : List Param} where
+  split : GoodParams extra s earlier (p ∷ ps) → FirstParam extra s earlier p ps
   split g =
       let o = both (not (repeats s earlier p)) (onceEach s (nameOf s p ∷ earlier) ps) (g .once) in
       record { good = head-of (g .each); new = not-true (repeats s earlier p) (o .0); rest = record { each = tail-of (g .each); once = o .1 } }
 
-  joined : FirstParam s earlier p ps → GoodParams s earlier (p ∷ ps)
+  joined : FirstParam extra s earlier p ps → GoodParams extra s earlier (p ∷ ps)
   joined g = record { each = each-more (g .good) (g .rest .each); once = rw (g .new) (g .rest .once) }
 
-module _ (s P : List ℕ) (first count : ℕ) where
+module _ (extra : Extra) (s P : List ℕ) (first count : ℕ) where
   abbrev ParamsLeft : List (List ℕ) → ℕ → Type 0
-  ParamsLeft earlier k = GoodParams s earlier (paramsFrom P (first + k) (count - k))
+  ParamsLeft earlier k = GoodParams extra s earlier (paramsFrom P (first + k) (count - k))
 
   abbrev AllParams : Type 0
-  AllParams = GoodParams s [] (paramsFrom P first count)
+  AllParams = GoodParams extra s [] (paramsFrom P first count)
 
   pub record Checked (seen : Seen) (k : ℕ) : Type 0 where
     pub within : k ≤ count
@@ -51,8 +52,8 @@ module _ (s P : List ℕ) (first count : ℕ) where
     back : ParamsLeft earlier k → AllParams
     on : AllParams → ParamsLeft earlier k
 
-module _ {s P : List ℕ} {first count : ℕ} where
-  pub begin : {seen : Seen} → seen ≡ noneSeen → Checked s P first count seen 0
+module _ {extra : Extra} {s P : List ℕ} {first count : ℕ} where
+  pub begin : {seen : Seen} → seen ≡ noneSeen → Checked extra s P first count seen 0
   begin q =
       record {
         within = omega arith;
@@ -62,8 +63,8 @@ module _ {s P : List ℕ} {first count : ℕ} where
         on = λ g. rw (add-zero, sub-zero) g;
       }
 
-  module _ {seen : Seen} {k : ℕ} (w : Checked s P first count seen k) where
-    pub through : count ≤ k → Decides true (AllParams s P first count)
+  module _ {seen : Seen} {k : ℕ} (w : Checked extra s P first count seen k) where
+    pub through : count ≤ k → Decides true (AllParams extra s P first count)
     through h =
         let z : count - k ≡ 0 = omega arith in is-so (w .back (rw z (record { each = each-none; once = refl })))
 
@@ -73,20 +74,20 @@ module _ {s P : List ℕ} {first count : ℕ} where
           let more : count - k ≡ suc (count - (k + 1)) = omega arith in
           let next : first + (k + 1) ≡ suc (first + k) = omega arith in rw (more, next, e)
 
-      apart : AllParams s P first count → FirstParam s (w .earlier) q (paramsFrom P (first + (k + 1)) (count - (k + 1)))
-      apart g = split (subst (GoodParams s (w .earlier)) front (w .on g))
+      apart : AllParams extra s P first count → FirstParam extra s (w .earlier) q (paramsFrom P (first + (k + 1)) (count - (k + 1)))
+      apart g = split (subst (GoodParams extra s (w .earlier)) front (w .on g))
 
-      pub bad-param : (GoodParam s q → ⊥) → Decides false (AllParams s P first count)
+      pub bad-param : (GoodParam extra s q → ⊥) → Decides false (AllParams extra s P first count)
       bad-param n = not-so (λ g. n (apart g .good))
 
       module _ {c : ℕ} {r : Bool} (coded : c ≡ codeOf (nameOf s q)) (asked : r ≡ hasCode seen c) where
         told : r ≡ (isOnce (nameOf s q) && among (w .earlier) (nameOf s q))
         told = has-told (w .seen-earlier) (nameOf s q) coded asked
 
-        pub repeated : r ≡ true → Decides false (AllParams s P first count)
+        pub repeated : r ≡ true → Decides false (AllParams extra s P first count)
         repeated t = not-so (λ g. false≢true (sym (apart g .new) ∙ sym told ∙ t))
 
-        pub passed : {new : Seen} → r ≡ false → GoodParam s q → new ≡ withCode seen c → Checked s P first count new (k + 1)
+        pub passed : {new : Seen} → r ≡ false → GoodParam extra s q → new ≡ withCode seen c → Checked extra s P first count new (k + 1)
         passed f good n =
             record {
               within = omega arith;
@@ -94,6 +95,6 @@ module _ {s P : List ℕ} {first count : ℕ} where
               seen-earlier = seen-with (w .seen-earlier) (nameOf s q) coded n;
               back =
                   λ g.
-                  w .back (subst (GoodParams s (w .earlier)) (sym front) (joined (record { good = good; new = sym told ∙ f; rest = g })));
+                  w .back (subst (GoodParams extra s (w .earlier)) (sym front) (joined (record { good = good; new = sym told ∙ f; rest = g })));
               on = λ g. apart g .rest;
             }

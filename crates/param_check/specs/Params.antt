@@ -4,9 +4,10 @@ use mathlib.Core.Path.{_≡_}
 use mathlib.Core.Bool.{true}
 use mathlib.Core.List.{List}
 use Rattle.grammar.specs.Link.{Param}
+use Rattle.grammar.specs.Grammar.{Extra}
 use Rattle.tables.specs.Good.{Each, GoodParam, onceEach}
 
 -- parameters that follow those of the names `earlier` in a link: each is good, and none repeats a name kept once
-pub record GoodParams (s : List ℕ) (earlier : List (List ℕ)) (ps : List Param) : Type 0 where
-  pub each : Each (GoodParam s) ps
+pub record GoodParams (extra : Extra) (s : List ℕ) (earlier : List (List ℕ)) (ps : List Param) : Type 0 where
+  pub each : Each (GoodParam extra s) ps
   pub once : onceEach s earlier ps ≡ true

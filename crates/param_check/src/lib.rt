@@ -1,6 +1,7 @@
 // Whether the parameters of a link are good.
 ghost use Prim.Native.Nat.{_+_, _≤_};
 ghost use mathlib.Core.List.{[]};
+ghost use Rattle.octets.specs.Editions.{further};
 ghost use Rattle.grammar.specs.Records.{paramRoom};
 ghost use Rattle.tables.specs.Table.{paramsFrom};
 ghost use Rattle.tables.specs.Good.{InText, GoodValue, GoodParam};

@@ -1,7 +1,8 @@
 // Whether a part of the text obeys the grammar, from its first octet to its last and no further.
 ghost use Prim.Native.Nat.{_≤_, _<_};
 ghost use lib.ListN.{length};
-ghost use Rattle.grammar.specs.Grammar.{Token};
+ghost use Rattle.octets.specs.Editions.{further};
+ghost use Rattle.grammar.specs.Grammar.{Token, Wider};
 ghost use Rattle.tables.specs.Good.{InText};
 ghost use Rattle.part_check.specs.Decides.{Decides};
 ghost use Rattle.part_check.specs.Units.{IsPart, PastUnit};

@@ -3,16 +3,17 @@ use Prim.Native.Nat.{_-_}
 use native.Mathlib.Omega.{arith}
 use borrow.Author.Needs.{needs}
 use borrow.Author.Tests.{not-true, not-false}
+use Rattle.octets.specs.Editions.{further}
 use Rattle.grammar.specs.Kept.{nameOf}
 use Rattle.param_check.proofs.OfParams.{Checked, begin, bad-param, repeated, passed, through}
 use Rattle.param_check.proofs.are_good_params.Statement.{statement}
 use Rattle.param_check.proofs.are_good_params.Tie as tie
 
 abbrev Inv-loop : tie.InvT-loop
-Inv-loop s slots first count seen₀ k₀ seen k = Checked s slots (first .0) count seen k
+Inv-loop edition s slots first count seen₀ k₀ seen k = Checked (further edition) s slots (first .0) count seen k
 
 abbrev μ-loop : tie.MeasureT-loop
-μ-loop s slots first count seen₀ k₀ seen k = count - k
+μ-loop edition s slots first count seen₀ k₀ seen k = count - k
 
 none-requires : tie.Need-none-requires Inv-loop μ-loop
 none-requires c κs = search needs
