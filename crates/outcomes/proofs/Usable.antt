@@ -6,9 +6,11 @@ use mathlib.Core.Logic.{_⊎_, inl, inr}
 use lib.ListN.{length}
 use Rattle.octets.specs.Editions.{further}
 use Rattle.octets.specs.declared.editions.Edition.{Edition}
+use Rattle.octets.specs.declared.editions.Edition.the-variants.{Rfc5988}
 use Rattle.tables.specs.Table.{Table}
 use Rattle.tables.specs.Good.{Good}
 use Rattle.tables.proofs.Decide.{good-decided}
+use Rattle.tables.proofs.GoodAlike.{good-alike}
 use Rattle.outcomes.specs.Number.{limit, done, unknownEdition}
 use Rattle.outcomes.specs.Usable.{Refused, long-text, not-good, Usable, TableIn, refused, usable, OverTable}
 use Rattle.outcomes.specs.Laws.{Settled}
@@ -23,6 +25,10 @@ usable-or-refused e t = go (le-or-lt (length (t .text)) limit) (good-decided (fu
     go (inr l) d = inr (_, long-text l)
     go (inl h) (yes g) = inl (record { short = h; good = g })
     go (inl h) (no g) = inr (_, not-good h g)
+
+-- what may be used in some edition may be used in the older one
+pub usable-older : {e : Edition} {t : Table} → Usable e t → Usable Rfc5988 t
+usable-older {e} {t} u = record { short = u .short; good = good-alike e t (u .good) }
 
 module _ {e : Edition} {t : Table} where
   one-refusal : {n m : ℕ} → Refused e t n → Refused e t m → n ≡ m

@@ -8,6 +8,7 @@ use mathlib.Core.Path.{_≡_, sym, subst, _∙_}
 use mathlib.Core.Bool.{false}
 use mathlib.Core.List.{List}
 use lib.Dec.{eqb}
+use Rattle.grammar.specs.Grammar.{Extra}
 use Rattle.grammar.specs.Records.{linkRoom, paramRoom}
 use Rattle.tables.specs.Table.{firstOf, countOf, linkAt, linksFrom, tableOf}
 use Rattle.tables.specs.Good.{Each, each-none, each-more, Follows, GoodLink, Good}
@@ -18,19 +19,19 @@ use Rattle.records.proofs.Told.{link-told}
 use Rattle.part_check.specs.Decides.{Decides}
 use Rattle.part_check.proofs.Deciding.{also, not-so, tests-eq}
 
-module _ (s L P : List ℕ) (n m : ℕ) where
+module _ (extra : Extra) (s L P : List ℕ) (n m : ℕ) where
   -- what is asked of the links from number i on
   record LinksLeft (next i : ℕ) : Type 0 where
     follows : Follows L i (n - i) next m
-    links : Each (GoodLink s) (linksFrom L P i (n - i))
+    links : Each (GoodLink extra s) (linksFrom L P i (n - i))
 
   pub record Walked (next i : ℕ) : Type 0 where
     pub link-room : n ≤ linkRoom L
     pub param-room : m ≤ paramRoom P
     pub within : i ≤ n
     pub below : next ≤ m
-    back : LinksLeft next i → Good (tableOf s L P n m)
-    on : Good (tableOf s L P n m) → LinksLeft next i
+    back : LinksLeft next i → Good extra (tableOf s L P n m)
+    on : Good extra (tableOf s L P n m) → LinksLeft next i
 
   -- the rooms are a and b, and the counts fit them
   pub begin : {a b : ℕ} → a ≡ linkRoom L → b ≡ paramRoom P → n ≤ a → m ≤ b → Walked 0 0
@@ -53,14 +54,14 @@ module _ (s L P : List ℕ) (n m : ℕ) where
       }
 
   -- they don't fit them
-  pub no-link-room : {a : ℕ} → a ≡ linkRoom L → a < n → Decides false (Good (tableOf s L P n m))
+  pub no-link-room : {a : ℕ} → a ≡ linkRoom L → a < n → Decides false (Good extra (tableOf s L P n m))
   no-link-room e h = not-so (λ g. omega (arith, e, g .link-room))
 
-  pub no-param-room : {b : ℕ} → b ≡ paramRoom P → b < m → Decides false (Good (tableOf s L P n m))
+  pub no-param-room : {b : ℕ} → b ≡ paramRoom P → b < m → Decides false (Good extra (tableOf s L P n m))
   no-param-room e h = not-so (λ g. omega (arith, e, g .param-room))
 
-module _ {s L P : List ℕ} {n m next i : ℕ} (w : Walked s L P n m next i) where
-  pub through : n ≤ i → Decides (eqb next m) (Good (tableOf s L P n m))
+module _ {extra : Extra} {s L P : List ℕ} {n m next i : ℕ} (w : Walked extra s L P n m next i) where
+  pub through : n ≤ i → Decides (eqb next m) (Good extra (tableOf s L P n m))
   through h =
       let z : n - i ≡ 0 = omega arith in
       also (λ q. w .back (record { follows = rw z q; links = rw z each-none })) (λ g. rw z at (w .on g .follows))
@@ -70,18 +71,18 @@ module _ {s L P : List ℕ} {n m next i : ℕ} (w : Walked s L P n m next i) whe
     record FirstLink : Type 0 where
       first : l .first .0 ≡ next
       room : next + l .count ≤ m
-      link : GoodLink s (toLink P l)
-      rest : LinksLeft s L P n m (next + l .count) (i + 1)
+      link : GoodLink extra s (toLink P l)
+      rest : LinksLeft extra s L P n m (next + l .count) (i + 1)
 
     more : n - i ≡ suc (n - suc i)
     more = omega arith
 
-    split : LinksLeft s L P n m next i → FirstLink
+    split : LinksLeft extra s L P n m next i → FirstLink
     split g =
         let f : (firstOf L i ≡ next) × Follows L (suc i) (n - suc i) (next + countOf L i) m =
         subst (λ (k : ℕ). Follows L i k next m) more (g .follows)
         in
-        let gs = subst (λ (k : ℕ). Each (GoodLink s) (linksFrom L P i k)) more (g .links) in
+        let gs = subst (λ (k : ℕ). Each (GoodLink extra s) (linksFrom L P i k)) more (g .links) in
         record {
           first = e .first ∙ f .0;
           room = rw (e .count) (follows-le L (suc i) (n - suc i) (next + countOf L i) m (f .1));
@@ -89,7 +90,7 @@ module _ {s L P : List ℕ} {n m next i : ℕ} (w : Walked s L P n m next i) whe
           rest = record { follows = rw (add-one i, e .count) (f .1); links = rw (add-one i) (tail-of gs) };
         }
 
-    joined : FirstLink → LinksLeft s L P n m next i
+    joined : FirstLink → LinksLeft extra s L P n m next i
     joined g =
         record {
           follows = rw more (sym (e .first) ∙ g .first, rw (add-one i, e .count) at (g .rest .follows));
@@ -97,16 +98,16 @@ module _ {s L P : List ℕ} {n m next i : ℕ} (w : Walked s L P n m next i) whe
         }
 
     -- the link does not begin where it should, or has more parameters than are left, or is not good
-    pub elsewhere : (l .first .0 ≡ next → ⊥) → Decides false (Good (tableOf s L P n m))
+    pub elsewhere : (l .first .0 ≡ next → ⊥) → Decides false (Good extra (tableOf s L P n m))
     elsewhere d = not-so (λ g. d (split (w .on g) .first))
 
-    pub too-many : m - next < l .count → Decides false (Good (tableOf s L P n m))
+    pub too-many : m - next < l .count → Decides false (Good extra (tableOf s L P n m))
     too-many d = not-so (λ g. omega (arith, w .below, split (w .on g) .room))
 
-    pub bad-link : (GoodLink s (toLink P l) → ⊥) → Decides false (Good (tableOf s L P n m))
+    pub bad-link : (GoodLink extra s (toLink P l) → ⊥) → Decides false (Good extra (tableOf s L P n m))
     bad-link d = not-so (λ g. d (split (w .on g) .link))
 
-    pub passed : l .first .0 ≡ next → l .count ≤ m - next → GoodLink s (toLink P l) → Walked s L P n m (next + l .count) (i + 1)
+    pub passed : l .first .0 ≡ next → l .count ≤ m - next → GoodLink extra s (toLink P l) → Walked extra s L P n m (next + l .count) (i + 1)
     passed f r g =
         let room : next + l .count ≤ m = omega (arith, w .below) in
         record {

@@ -1,6 +1,6 @@
 // What every entry over a table asks of it first.
 ghost use Rattle.tables.specs.Table.{tableOf};
-ghost use Rattle.table_check.specs.State.{IsState};
+ghost use Rattle.table_check.specs.State.{StateIn, IsState};
 use answers::LIMIT;
 use answers::Refusal;
 use kinds::Counts;

@@ -1,5 +1,6 @@
 // Whether a table is good. Every number may be anything: none is used as a place or as a count before it is known to fit.
 ghost use Prim.Native.Nat.{_+_, _≤_};
+ghost use Rattle.octets.specs.Editions.{further};
 ghost use Rattle.grammar.specs.Records.{paramRoom};
 ghost use Rattle.tables.specs.Good.{Good, GoodLink};
 ghost use Rattle.tables.specs.Table.{tableOf};

@@ -4,6 +4,7 @@ use native.Mathlib.Omega.{arith}
 use mathlib.Core.Logic.{⊎-elim}
 use borrow.Author.Needs.{needs}
 use borrow.Author.Tests.{ltb-true, ltb-false, not-true, not-false}
+use Rattle.octets.specs.Editions.{further}
 use Rattle.table_check.proofs.OfLinks.{
   Walked,
   begin,
@@ -19,11 +20,11 @@ use Rattle.table_check.proofs.links.is_good.Statement.{statement}
 use Rattle.table_check.proofs.links.is_good.Tie as tie
 
 abbrev Inv-loop : tie.InvT-loop
-Inv-loop text links params counts next₀ i₀ next i =
-    Walked text links params (counts .links) (counts .params) (next .0) (i .0)
+Inv-loop edition text links params counts next₀ i₀ next i =
+    Walked (further edition) text links params (counts .links) (counts .params) (next .0) (i .0)
 
 abbrev μ-loop : tie.MeasureT-loop
-μ-loop text links params counts next₀ i₀ next i = counts .links - i .0
+μ-loop edition text links params counts next₀ i₀ next i = counts .links - i .0
 
 link-room-requires : tie.Need-link-room-requires Inv-loop μ-loop
 link-room-requires c κs = search needs
@@ -33,8 +34,8 @@ param-room-requires c κs = search needs
 
 returns : tie.Need-returns Inv-loop μ-loop
 returns c =
-    ⊎-elim (λ w. no-link-room _ _ _ _ _ (c .before .before .link-room .ensures) (w .taken))
-    (λ w. no-param-room _ _ _ _ _ (w .1 .ensures) (ltb-true _ _ (w .3 .taken))) (c .if1 .came)
+    ⊎-elim (λ w. no-link-room _ _ _ _ _ _ (c .before .before .link-room .ensures) (w .taken))
+    (λ w. no-param-room _ _ _ _ _ _ (w .1 .ensures) (ltb-true _ _ (w .3 .taken))) (c .if1 .came)
 
 first-requires : tie.Need-first-requires Inv-loop μ-loop
 first-requires c κs = search needs
@@ -47,7 +48,7 @@ loop-holds c =
     let b1 = c .before .before .before .before in
     let b2 = b1 .before .before .before in
     let if1′ = b1 .before .if1 in let if2′ = c .before .before .if2 in rw (c .first2 .ensures, c .before .first .ensures)
-    (begin _ _ _ _ _ (b2 .link-room .ensures) (b1 .param-room .ensures) (if1′ .left) (ltb-false _ _ (if2′ .left)))
+    (begin _ _ _ _ _ _ (b2 .link-room .ensures) (b1 .param-room .ensures) (if1′ .left) (ltb-false _ _ (if2′ .left)))
 
 link-at-requires : tie.Need-link-at-requires Inv-loop μ-loop
 link-at-requires c κs =
