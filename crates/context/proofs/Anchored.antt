@@ -1,11 +1,12 @@
 -- A link's context, once its parameters have been looked through, and the part that it is.
-use Prim.Native.Nat.{ℕ, _+_, _-_, _<_}
+use Prim.Native.Nat.{ℕ, _+_, _-_, _≤_, _<_}
 use native.Mathlib.Nat.{add-zero, add-comm}
 use denote.Ref.{RefT}
 use mathlib.Core.Path.{_≡_, sym, ap, subst, _∙_}
 use mathlib.Core.List.{List}
 use lib.ListN.{length, take, drop}
 use lib.Seq.{slice}
+use Rattle.octets.specs.declared.editions.Edition.the-variants.{Rfc5988}
 use Rattle.octets.proofs.Laws.{slice-take-drop}
 use Rattle.octets.specs.Text.{octets}
 use Rattle.kinds.specs.declared.Span.{Span}
@@ -15,19 +16,22 @@ use Rattle.records.specs.declared.ParamRecord.{ParamRecord}
 use Rattle.tables.specs.Table.{Table}
 use Rattle.tables.specs.Relation.{named}
 use Rattle.outcomes.specs.Usable.{Usable}
-use Rattle.outcomes.specs.Context.{contextOctets, anchor, Context, anchored, unanchored}
+use Rattle.outcomes.specs.Context.{contextOctets, anchor, Context, no-such-link, anchored, unanchored}
+use Rattle.table_check.specs.State.{UsableIn}
+use Rattle.table_check.proofs.EntryOutcomes.{state-usable}
 use Rattle.answers.specs.Context.{contextOut}
+use Rattle.answers.specs.declared.Refusal.the-variants.{NoSuchLink}
 use Rattle.answers.specs.declared.context_answer.ContextAnswer.{ContextAnswer}
-use Rattle.answers.specs.declared.context_answer.ContextAnswer.the-variants.{Anchored, Base}
+use Rattle.answers.specs.declared.context_answer.ContextAnswer.the-variants.{Anchored, Base, Refused}
 use Rattle.named.specs.First.{Listed, FirstNamed, found}
 use Rattle.named.specs.declared.Named.{Named}
 use Rattle.named.specs.declared.Named.the-variants.{Found, Absent}
 use Rattle.named.proofs.ByName.{by-anchor, coded-each}
 use Rattle.named.proofs.Looking.{listed, own-params}
-use Rattle.context.specs.Part.{Within, IsContext, beginsAt, HandsBack}
+use Rattle.context.specs.Part.{Within, IsAnchor, IsContext, beginsAt, HandsBack}
 
 -- the link's record is r, and a answers what was found among its parameters
-module _ {t : Table} {i : ℕ} (u : Usable t) (l : i < t .linkCount) {r : LinkRecord} (is : IsLink (t .linkSlots) i r) where
+module _ {t : Table} {i : ℕ} (u : Usable Rfc5988 t) (l : i < t .linkCount) {r : LinkRecord} (is : IsLink (t .linkSlots) i r) where
   pub listed-here : Listed (t .text) (t .paramSlots) r
   listed-here = listed (u .good) l is
 
@@ -37,26 +41,34 @@ module _ {t : Table} {i : ℕ} (u : Usable t) (l : i < t .linkCount) {r : LinkRe
         ap (named (t .text) (octets "anchor")) (own-params (t .paramSlots) is)
         ∙ by-anchor (t .text) ((toLink (t .paramSlots) r) .params) ∙ first
 
-    pub is-anchored : {p : ParamRecord} → a ≡ Found p → IsContext t i (Anchored (p .value))
+    pub is-anchored : {p : ParamRecord} → a ≡ Found p → IsAnchor t i (Anchored (p .value))
     is-anchored e =
         record {
-          outcome = λ base. anchored u l (is-found ∙ ap found e);
+          outcome = λ base. anchored l (is-found ∙ ap found e);
           within = coded-each (t .text) 2 (listed-here .params) (first ∙ ap found e) .value-span;
         }
 
-    pub is-base : a ≡ Absent → IsContext t i Base
-    is-base e = record { outcome = λ base. unanchored u l (is-found ∙ ap found e); within = tt }
+    pub is-base : a ≡ Absent → IsAnchor t i Base
+    is-base e = record { outcome = λ base. unanchored l (is-found ∙ ap found e); within = tt }
+
+-- on a table that may be used in the edition with the number n
+module _ {n : ℕ} {t : Table} {i : ℕ} (u : UsableIn n t) where
+  pub is-there : {a : ContextAnswer} → IsAnchor t i a → IsContext n t i a
+  is-there h = record { outcome = λ base. state-usable u (h .outcome base); within = h .within }
+
+  pub not-there : t .linkCount ≤ i → IsContext n t i (Refused NoSuchLink)
+  not-there l = record { outcome = λ base. state-usable u (no-such-link l); within = tt }
 
 -- the answer was told apart as x
-module _ {t : Table} {i : ℕ} {a x : ContextAnswer} (h : IsContext t i a) (e : a ≡ x) where
+module _ {n : ℕ} {t : Table} {i : ℕ} {a x : ContextAnswer} (h : IsContext n t i a) (e : a ≡ x) where
   pub within : Within (t .text) x
   within = subst (Within (t .text)) e (h .within)
 
-  pub told-outcome : (base : List ℕ) → Context t base i (contextOut (length base) x)
-  told-outcome base = subst (λ y. Context t base i (contextOut (length base) y)) e (h .outcome base)
+  pub told-outcome : (base : List ℕ) → Context n t base i (contextOut (length base) x)
+  told-outcome base = subst (λ y. Context n t base i (contextOut (length base) y)) e (h .outcome base)
 
   pub hands : (text base : RefT (List ℕ)) {r : RefT (List ℕ)} → r .now ≡ contextOctets (t .text) (base .now) (contextOut (length (base .now)) x)
-      → r .ptr ≡ beginsAt text base (contextOut (length (base .now)) x) → HandsBack t i text base r
+      → r .ptr ≡ beginsAt text base (contextOut (length (base .now)) x) → HandsBack n t i text base r
   hands text base q p =
       record {
         out = contextOut (length (base .now)) x;
@@ -66,7 +78,7 @@ module _ {t : Table} {i : ℕ} {a x : ContextAnswer} (h : IsContext t i a) (e : 
       }
 
 -- the part of the text, as the code takes it
-pub text-part : {t : Table} {i : ℕ} {a : ContextAnswer} {p : Span} → IsContext t i a → a ≡ Anchored p
+pub text-part : {n : ℕ} {t : Table} {i : ℕ} {a : ContextAnswer} {p : Span} → IsContext n t i a → a ≡ Anchored p
     → take (p .to .0 - p .from .0) (drop (p .from .0) (t .text)) ≡ slice (p .from .0) (p .to .0) (t .text)
 text-part {t} {p = p} h e = sym (slice-take-drop (p .from .0) (p .to .0) (t .text) (within h e .ordered))
 

@@ -1,12 +1,13 @@
-// A link's context: its `anchor` value as written, else the whole base. Both entries refuse an edition that there isn't, a text that is too long, a table that is
-// not good, and a link that isn't there.
+// A link's context: its `anchor` value as written, else the whole base. Both entries refuse an edition that there isn't, a text that
+// is too long, a table that is not good, and a link that isn't there.
 ghost use Prim.Native.Nat.{_<_};
 ghost use lib.ListN.{length};
+ghost use Rattle.octets.specs.declared.editions.Edition.the-variants.{Rfc5988};
 ghost use Rattle.tables.specs.Table.{tableOf};
 ghost use Rattle.outcomes.specs.Usable.{Usable};
 ghost use Rattle.outcomes.specs.Context.{Context};
 ghost use Rattle.answers.specs.Context.{contextOut};
-ghost use Rattle.context.specs.Part.{IsContext, HandsBack};
+ghost use Rattle.context.specs.Part.{IsAnchor, IsContext, HandsBack};
 use answers::Refusal;
 use answers::context_answer::ContextAnswer;
 use kinds::Counts;
@@ -22,10 +23,10 @@ fn anchor_of(
     counts: Counts,
     link: LinkNumber,
 ) -> ContextAnswer
-    requires { ⌜ Usable (tableOf (now text) (now links) (now params) (counts .links) (counts .params)) ⌝ }
+    requires { ⌜ Usable Rfc5988 (tableOf (now text) (now links) (now params) (counts .links) (counts .params)) ⌝ }
     requires { ⌜ link .0 < counts .links ⌝ }
     ensures { λ r. ⌜
-        IsContext (tableOf (now (text .entry)) (now (links .entry)) (now (params .entry)) (counts .links) (counts .params))
+        IsAnchor (tableOf (now (text .entry)) (now (links .entry)) (now (params .entry)) (counts .links) (counts .params))
         (link .0) r ⌝ }
 {
     let l = records::link_at(links, link);
@@ -49,7 +50,8 @@ fn context_of(
     link: LinkNumber,
 ) -> ContextAnswer
     ensures { λ r. ⌜
-        IsContext (tableOf (now (text .entry)) (now (links .entry)) (now (params .entry)) (counts .links) (counts .params))
+        IsContext edition
+        (tableOf (now (text .entry)) (now (links .entry)) (now (params .entry)) (counts .links) (counts .params))
         (link .0) r ⌝ }
 {
     let state = table_check::state_of(edition, text, links, params, counts);
@@ -76,7 +78,8 @@ pub fn context<'a>(
     link: LinkNumber,
 ) -> &'a [u8]
     ensures { λ r. ⌜
-        HandsBack (tableOf (now (text .entry)) (now (links .entry)) (now (params .entry)) (counts .links) (counts .params))
+        HandsBack edition
+        (tableOf (now (text .entry)) (now (links .entry)) (now (params .entry)) (counts .links) (counts .params))
         (link .0) (text .entry) (base .entry) r ⌝ }
 {
     let answer = context_of(edition, text, links, params, counts, link);
@@ -102,7 +105,8 @@ pub fn context_number<'a>(
     link: LinkNumber,
 ) -> ContextAnswer
     ensures { λ r. ⌜
-        Context (tableOf (now (text .entry)) (now (links .entry)) (now (params .entry)) (counts .links) (counts .params))
+        Context edition
+        (tableOf (now (text .entry)) (now (links .entry)) (now (params .entry)) (counts .links) (counts .params))
         (now (base .entry)) (link .0) (contextOut (length (now (base .entry))) r) ⌝ }
 {
     context_of(edition, text, links, params, counts, link)

@@ -4,6 +4,8 @@ use native.Mathlib.Omega.{arith}
 use mathlib.Core.Path.{_≡_, sym, ap, _∙_}
 use mathlib.Core.List.{List, _++_}
 use lib.ListN.{length, drop}
+use Rattle.octets.specs.Editions.{further}
+use Rattle.octets.specs.declared.editions.Edition.the-variants.{Rfc5988}
 use Rattle.grammar.specs.Records.{paramRoom}
 use Rattle.kinds.specs.Put.{Put}
 use Rattle.kinds.proofs.Stores.{sets-front}
@@ -16,12 +18,12 @@ use Rattle.tables.specs.Meaning.{valueOf}
 use Rattle.tables.proofs.InGood.{params-slots, good-param}
 use Rattle.outcomes.specs.Number.{done, noOutputRoom}
 use Rattle.outcomes.specs.Usable.{Usable}
-use Rattle.outcomes.specs.Copy.{untouched, meant, Copy, no-room, copied}
+use Rattle.outcomes.specs.Copy.{untouched, meant, Copied, no-room, copied}
 use Rattle.values.specs.Rest.{rest}
 use Rattle.values.proofs.Values.{value-meant}
 
 -- the number of the parameter is in the room, as long as its index is below the count
-module _ {t : Table} (u : Usable t) {i j : ℕ} (l : i < t .linkCount) {r : LinkRecord} (is : IsLink (t .linkSlots) i r) where
+module _ {t : Table} (u : Usable Rfc5988 t) {i j : ℕ} (l : i < t .linkCount) {r : LinkRecord} (is : IsLink (t .linkSlots) i r) where
   pub counted : r .count ≤ j → countOf (t .linkSlots) i ≤ j
   counted h = omega (arith, is .count)
 
@@ -30,18 +32,18 @@ module _ {t : Table} (u : Usable t) {i j : ℕ} (l : i < t .linkCount) {r : Link
 
 -- the record p is that parameter's
 pub record AtIndex (t : Table) (i j : ℕ) (p : ParamRecord) : Type 0 where
-  pub usable : Usable t
+  pub usable : Usable Rfc5988 t
   pub is-link : i < t .linkCount
   pub is-param : j < countOf (t .linkSlots) i
   pub is : toParam p ≡ paramAt (t .paramSlots) (firstOf (t .linkSlots) i + j)
 
-pub at-index : {t : Table} → Usable t → {i j : ℕ} → i < t .linkCount → {r : LinkRecord} → IsLink (t .linkSlots) i r → j < r .count
+pub at-index : {t : Table} → Usable Rfc5988 t → {i j : ℕ} → i < t .linkCount → {r : LinkRecord} → IsLink (t .linkSlots) i r → j < r .count
     → {n : ℕ} → n ≡ r .first .0 + j → {p : ParamRecord} → toParam p ≡ paramAt (t .paramSlots) n → AtIndex t i j p
 at-index u l is h q e =
     record { usable = u; is-link = l; is-param = omega (arith, is .count); is = rw (q, is .first) at e }
 
 module _ {t : Table} {i j : ℕ} {p : ParamRecord} (w : AtIndex t i j p) where
-  good-there : GoodParam (t .text) (toParam p)
+  good-there : GoodParam (further Rfc5988) (t .text) (toParam p)
   good-there = rw (w .is) (good-param (w .usable .good) (w .is-link) (w .is-param))
 
   pub value-inside : InText (t .text) (p .value .from .0) (p .value .to .0)
@@ -53,13 +55,13 @@ module _ {t : Table} {i j : ℕ} {p : ParamRecord} (w : AtIndex t i j p) where
   is-meant : meant t i j ≡ value
   is-meant = ap (valueOf (t .text)) (sym (w .is)) ∙ value-meant good-there
 
-  pub short-buffer : (out : List ℕ) {n : ℕ} → n ≡ length value → length out < n → Copy t i j out (untouched out noOutputRoom)
-  short-buffer out q k = no-room (w .usable) (w .is-link) (w .is-param) (rw is-meant (rw q at k))
+  pub short-buffer : (out : List ℕ) {n : ℕ} → n ≡ length value → length out < n → Copied t i j out (untouched out noOutputRoom)
+  short-buffer out q k = no-room (w .is-link) (w .is-param) (rw is-meant (rw q at k))
 
   pub all-copied : {out new : List ℕ} {n at to : ℕ} → n ≡ length value → n ≤ length out → at ≡ 0 → Put out new at to value
-      → Copy t i j out (record { number = done; count = n; buffer = new })
+      → Copied t i j out (record { number = done; count = n; buffer = new })
   all-copied {out} {new} q k z put =
       let fits : length value ≤ length out = rw q at k in
       let front : Put out new 0 _ value = rw z at put in
       let written : new ≡ value ++ drop (length value) out = front .buffer ∙ sets-front out value fits in
-      rw (q, written, sym is-meant) (copied (w .usable) (w .is-link) (w .is-param) (rw is-meant fits))
+      rw (q, written, sym is-meant) (copied (w .is-link) (w .is-param) (rw is-meant fits))

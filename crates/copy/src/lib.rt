@@ -1,7 +1,8 @@
 // Value copy: what one parameter's value means, written into a buffer that is lent.
+ghost use Rattle.octets.specs.declared.editions.Edition.the-variants.{Rfc5988};
 ghost use Rattle.tables.specs.Table.{tableOf};
 ghost use Rattle.outcomes.specs.Usable.{Usable};
-ghost use Rattle.outcomes.specs.Copy.{Copy};
+ghost use Rattle.outcomes.specs.Copy.{Copied, Copy};
 ghost use Rattle.answers.specs.Length.{lengthNumbers, lengthOut};
 use answers::Refusal;
 use answers::length_answer::LengthAnswer;
@@ -23,8 +24,8 @@ fn copy_at(
     index: usize,
     out: &mut [u8],
 ) -> LengthAnswer
-    requires { ⌜ Usable (tableOf (now text) (now links) (now params) (counts .links) (counts .params)) ⌝ }
-    ensures { λ r. ⌜ Copy (tableOf (now (text .entry)) (now (links .entry)) (now (params .entry)) (counts .links) (counts .params))
+    requires { ⌜ Usable Rfc5988 (tableOf (now text) (now links) (now params) (counts .links) (counts .params)) ⌝ }
+    ensures { λ r. ⌜ Copied (tableOf (now (text .entry)) (now (links .entry)) (now (params .entry)) (counts .links) (counts .params))
         (link .0) index (now (out .entry)) (lengthOut (lengthNumbers r) (now (out .exit))) ⌝ }
 {
     if link.0 >= counts.links {
@@ -55,7 +56,7 @@ pub fn value(
     index: usize,
     out: &mut [u8],
 ) -> LengthAnswer
-    ensures { λ r. ⌜ Copy (tableOf (now (text .entry)) (now (links .entry)) (now (params .entry)) (counts .links) (counts .params))
+    ensures { λ r. ⌜ Copy edition (tableOf (now (text .entry)) (now (links .entry)) (now (params .entry)) (counts .links) (counts .params))
         (link .0) index (now (out .entry)) (lengthOut (lengthNumbers r) (now (out .exit))) ⌝ }
 {
     let state = state_of(edition, text, links, params, counts);

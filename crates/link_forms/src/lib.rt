@@ -1,6 +1,7 @@
 // Links put into a buffer in their written form, one behind another.
 ghost use Prim.Native.Nat.{_+_, _≤_};
 ghost use lib.ListN.{length};
+ghost use Rattle.octets.specs.declared.editions.Edition.the-variants.{Rfc5988};
 ghost use Rattle.kinds.specs.Put.{Put};
 ghost use Rattle.outcomes.specs.Usable.{Usable};
 ghost use Rattle.outcomes.specs.Write.{writtenForm};
@@ -52,7 +53,7 @@ pub fn put_links(
     counts: Counts,
     out: &mut [u8],
 ) -> OutPlace
-    requires { ⌜ Usable (tableOf (now text) (now links) (now params) (counts .links) (counts .params)) ⌝ }
+    requires { ⌜ Usable Rfc5988 (tableOf (now text) (now links) (now params) (counts .links) (counts .params)) ⌝ }
     requires { ⌜
         length (writtenForm (tableOf (now text) (now links) (now params) (counts .links) (counts .params))) ≤ length (now out) ⌝ }
     ensures { λ r. ⌜ Put (now (out .entry)) (now (out .exit)) 0 (r .0)

@@ -7,6 +7,8 @@ use mathlib.Core.List.{List, [], _∷_}
 use lib.Dec.{eqb}
 use lib.ListN.{length, length-append, length-map}
 use lib.Seq.{slice, length-slice}
+use Rattle.octets.specs.Editions.{further}
+use Rattle.octets.specs.declared.editions.Edition.the-variants.{Rfc5988}
 use Rattle.octets.specs.Fold.{fold}
 use Rattle.grammar.specs.Link.{Param}
 use Rattle.grammar.specs.Kept.{nameOf}
@@ -44,7 +46,7 @@ written-bound v = go (isTokenText v) refl
     go true e = rw e (omega arith)
     go false e = rw e (omega (arith, escape-bound v, length-append (escape v) (34 ∷ [])))
 
-module _ {s : List ℕ} {p : Param} (g : GoodParam s p) where
+module _ {s : List ℕ} {p : Param} (g : GoodParam (further Rfc5988) s p) where
   pub value-bound : length (writtenValue (valueOf s p)) ≤ 2 * length s + 2
   unfolding unescape
   value-bound =

@@ -7,6 +7,8 @@ use mathlib.Core.Bool.{Bool, true, false}
 use mathlib.Core.List.{List, _++_}
 use lib.Dec.{eqb}
 use lib.ListN.{length, length-append}
+use Rattle.octets.specs.Editions.{further}
+use Rattle.octets.specs.declared.editions.Edition.the-variants.{Rfc5988}
 use Rattle.records.specs.Slots.{IsLink, toLink, toParam}
 use Rattle.records.specs.declared.LinkRecord.{LinkRecord}
 use Rattle.records.specs.declared.ParamRecord.{ParamRecord}
@@ -40,7 +42,7 @@ module _ {s P : List ℕ} {total end n p : ℕ} (w : ParamsMeasured s P total en
 
   -- the parameter at p, and how many octets its name and its value take
   module _ (l : p < end) {r : ParamRecord} (is : toParam r ≡ paramAt P p) where
-    pub good-here : GoodParam s (toParam r)
+    pub good-here : GoodParam (further Rfc5988) s (toParam r)
     good-here = rw is (w .run .good p (omega arith) l)
 
     left : length (paramsLeft s P end p) ≡ length (paramForm s (toParam r)) + length (paramsLeft s P end (suc p))
@@ -88,7 +90,7 @@ module _ {t : Table} {n i : ℕ} (w : LinksMeasured t n i) where
   form-over l = record { exact = λ h. absurd (omega arith); over = w .over }
 
   -- the link at i, parted from the one before it by x octets, with a target of y
-  module _ (u : Usable t) (l : i < t .linkCount) {r : LinkRecord} (is : IsLink (t .linkSlots) i r) {x y : ℕ}
+  module _ (u : Usable Rfc5988 t) (l : i < t .linkCount) {r : LinkRecord} (is : IsLink (t .linkSlots) i r) {x y : ℕ}
       (part : x ≡ length (parting (eqb i 0))) (target : y ≡ r .target .to .0 - r .target .from .0) where
     -- it adds too little to wrap
     pub link-added : x + (y + 2) ≤ limit + 4

@@ -3,6 +3,7 @@
 ghost use mathlib.Core.Path.{_≡_};
 ghost use Prim.Native.Nat.{_+_, _≤_};
 ghost use lib.ListN.{length};
+ghost use Rattle.octets.specs.declared.editions.Edition.the-variants.{Rfc5988};
 ghost use Rattle.outcomes.specs.Number.{limit};
 ghost use Rattle.outcomes.specs.Usable.{Usable};
 ghost use Rattle.outcomes.specs.Write.{writtenForm};
@@ -47,7 +48,7 @@ fn parting_len(first: bool) -> usize
 
 // The length of the whole form: of each link what parts it from the one before, its target in `<` and `>`, and its parameters.
 pub fn form_len(text: &[u8], links: &[usize], params: &[usize], counts: Counts) -> usize
-    requires { ⌜ Usable (tableOf (now text) (now links) (now params) (counts .links) (counts .params)) ⌝ }
+    requires { ⌜ Usable Rfc5988 (tableOf (now text) (now links) (now params) (counts .links) (counts .params)) ⌝ }
     ensures { λ r. ⌜ Measured
         (length (writtenForm (tableOf (now (text .entry)) (now (links .entry)) (now (params .entry)) (counts .links) (counts .params)))) r ⌝ }
 {

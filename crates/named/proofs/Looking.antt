@@ -7,6 +7,8 @@ use mathlib.Core.Path.{_≡_, sym, ap, subst, _∙_}
 use mathlib.Core.List.{List, _∷_}
 use mathlib.Core.Option.{Option, none, some}
 use borrow.Author.Tests.{eq-eqb, ne-eqb}
+use Rattle.octets.specs.Editions.{further}
+use Rattle.octets.specs.declared.editions.Edition.the-variants.{Rfc5988}
 use Rattle.grammar.specs.Link.{Link, Param}
 use Rattle.grammar.specs.Kept.{nameOf, codeOf}
 use Rattle.grammar.specs.Records.{paramRoom}
@@ -20,7 +22,7 @@ use Rattle.records.proofs.Told.{link-told}
 use Rattle.named.specs.First.{Listed, coded}
 
 -- link number i of a good table, by its record r
-pub listed : {t : Table} {i : ℕ} {r : LinkRecord} → Good t → i < t .linkCount → IsLink (t .linkSlots) i r
+pub listed : {t : Table} {i : ℕ} {r : LinkRecord} → Good (further Rfc5988) t → i < t .linkCount → IsLink (t .linkSlots) i r
     → Listed (t .text) (t .paramSlots) r
 listed g l is =
     record { room = rw (is .first, is .count) (params-slots g l); params = rw (is .first, is .count) (good-link g l .params) }
@@ -32,7 +34,7 @@ own-params P is = sym (ap (λ (x : Link). x .params) (link-told P is))
 pub record Looking {A : Type 0} (f : Option Param → A) (s P : List ℕ) (k : ℕ) (ps : List Param) (end p : ℕ) : Type 0 where
   pub inside : p ≤ end
   pub room : end ≤ paramRoom P
-  pub good : (j : ℕ) → p ≤ j → j < end → GoodParam s (paramAt P j)
+  pub good : (j : ℕ) → p ≤ j → j < end → GoodParam (further Rfc5988) s (paramAt P j)
   pub left : f (coded s k ps) ≡ f (coded s k (paramsFrom P p (end - p)))
 
 -- the loop begins at the link's first parameter
@@ -46,7 +48,7 @@ begin f k {s} {P} {l} h =
       good =
           λ j a b.
           let e : l .first .0 + (j - l .first .0) ≡ j = omega arith in
-          subst (λ (n : ℕ). GoodParam s (paramAt P n)) e
+          subst (λ (n : ℕ). GoodParam (further Rfc5988) s (paramAt P n)) e
           (each-param P (l .first .0) (l .count) (j - l .first .0) (h .params) (omega arith));
       left = rw own;
     }
@@ -68,7 +70,7 @@ module _ {A : Type 0} {f : Option Param → A} {s P : List ℕ} {k : ℕ} {ps : 
     in-room = omega (arith, w .room)
 
     module _ {r : ParamRecord} (is : toParam r ≡ paramAt P p) where
-      pub good-here : GoodParam s (toParam r)
+      pub good-here : GoodParam (further Rfc5988) s (toParam r)
       good-here = rw is (w .good p (omega arith) l)
 
       -- and is the first of those that are left

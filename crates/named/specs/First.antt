@@ -5,6 +5,8 @@ use mathlib.Core.Bool.{cond}
 use mathlib.Core.List.{List, [], _∷_}
 use mathlib.Core.Option.{Option, none, some}
 use lib.Dec.{eqb}
+use Rattle.octets.specs.Editions.{further}
+use Rattle.octets.specs.declared.editions.Edition.the-variants.{Rfc5988}
 use Rattle.grammar.specs.Link.{Param}
 use Rattle.grammar.specs.Kept.{nameOf, codeOf}
 use Rattle.grammar.specs.Records.{paramRoom}
@@ -17,7 +19,7 @@ use Rattle.named.specs.declared.Named.the-variants.{Found, Absent}
 -- the parameters of a link's record lie in the slots P, and each is good
 pub record Listed (s P : List ℕ) (l : LinkRecord) : Type 0 where
   pub room : l .first .0 + l .count ≤ paramRoom P
-  pub params : Each (GoodParam s) ((toLink P l) .params)
+  pub params : Each (GoodParam (further Rfc5988) s) ((toLink P l) .params)
 
 -- the first of the parameters whose name has the code k
 abbrev pub coded : List ℕ → ℕ → List Param → Option Param

@@ -1,6 +1,8 @@
 // Parameters put into a buffer in their written form, one behind another.
 ghost use Prim.Native.Nat.{_+_, _≤_};
 ghost use lib.ListN.{length};
+ghost use Rattle.octets.specs.Editions.{further};
+ghost use Rattle.octets.specs.declared.editions.Edition.the-variants.{Rfc5988};
 ghost use Rattle.kinds.specs.Put.{Put};
 ghost use Rattle.records.specs.Slots.{toParam};
 ghost use Rattle.tables.specs.Good.{InText, GoodParam};
@@ -34,7 +36,7 @@ fn put_in_quotes(s: &[u8], part: Span, out: &mut [u8], at: OutPlace) -> OutPlace
 
 // A parameter's value, bare or in quotes.
 fn put_value(text: &[u8], p: ParamRecord, out: &mut [u8], at: OutPlace) -> OutPlace
-    requires { ⌜ GoodParam (now text) (toParam p) ⌝ }
+    requires { ⌜ GoodParam (further Rfc5988) (now text) (toParam p) ⌝ }
     requires { ⌜ at .0 + length (writtenValue (valueOf (now text) (toParam p))) ≤ length (now out) ⌝ }
     ensures { λ r. ⌜
         Put (now (out .entry)) (now (out .exit)) (at .0) (r .0) (writtenValue (valueOf (now (text .entry)) (toParam p))) ⌝ }
@@ -47,7 +49,7 @@ fn put_value(text: &[u8], p: ParamRecord, out: &mut [u8], at: OutPlace) -> OutPl
 
 // One parameter: `;`, space, folded name, `=`, value.
 fn put_param(text: &[u8], p: ParamRecord, out: &mut [u8], at: OutPlace) -> OutPlace
-    requires { ⌜ GoodParam (now text) (toParam p) ⌝ }
+    requires { ⌜ GoodParam (further Rfc5988) (now text) (toParam p) ⌝ }
     requires { ⌜ at .0 + length (paramForm (now text) (toParam p)) ≤ length (now out) ⌝ }
     ensures { λ r. ⌜ Put (now (out .entry)) (now (out .exit)) (at .0) (r .0) (paramForm (now (text .entry)) (toParam p)) ⌝ }
 {

@@ -8,6 +8,7 @@ use mathlib.Core.Bool.{Bool, true, false}
 use mathlib.Core.List.{List}
 use mathlib.Core.Option.{Option}
 use lib.ListN.{length}
+use Rattle.octets.specs.declared.editions.Edition.the-variants.{Rfc5988}
 use Rattle.grammar.specs.Link.{Param}
 use Rattle.grammar.specs.Kept.{nameOf, codeOf}
 use Rattle.tables.specs.Table.{Table, paramAt, linkAt}
@@ -39,7 +40,6 @@ has-coded t q i = ap (relates (t .text) q) (by-rel (t .text) ((linkAt (t .linkSl
 -- ---- over the parameters of link number i, up to number `end`: the loop stands at number p
 
 pub record AmongParams (t : Table) (q : List ℕ) (i end p : ℕ) : Type 0 where
-  pub usable : Usable t
   pub is-link : i < t .linkCount
   pub looking : Looking (relates (t .text) q) (t .text) (t .paramSlots) 1 ((linkAt (t .linkSlots) (t .paramSlots) i) .params) end p
 
@@ -71,11 +71,10 @@ module _ {s q : List ℕ} {b : Bool} {e k : ℕ} (w : AmongRuns s q b e k) where
 
 -- ---- both together
 
-pub first-param : {t : Table} (q : List ℕ) {i : ℕ} {r : LinkRecord} → Usable t → i < t .linkCount → IsLink (t .linkSlots) i r
+pub first-param : {t : Table} (q : List ℕ) {i : ℕ} {r : LinkRecord} → Usable Rfc5988 t → i < t .linkCount → IsLink (t .linkSlots) i r
     → AmongParams t q i (r .first .0 + r .count) (r .first .0)
 first-param {t} q u l is =
     record {
-      usable = u;
       is-link = l;
       looking = rw (own-params (t .paramSlots) is) (begin (relates (t .text) q) 1 (listed (u .good) l is));
     }
@@ -89,7 +88,6 @@ module _ {t : Table} {q : List ℕ} {i end p : ℕ} (w : AmongParams t q i end p
   pub unrelated : {e k : ℕ} → AmongRuns (t .text) q (has t q i) e k → e ≤ k → AmongParams t q i end end
   unrelated a l =
       record {
-        usable = w .usable;
         is-link = w .is-link;
         looking = leave (w .looking) (sym (has-coded t q i) ∙ no-run a l);
       }
@@ -98,7 +96,7 @@ module _ {t : Table} {q : List ℕ} {i end p : ℕ} (w : AmongParams t q i end p
   module _ (l : p < end) {r : ParamRecord} (is : toParam r ≡ paramAt (t .paramSlots) p) {c : ℕ}
       (told : c ≡ codeOf (nameOf (t .text) (toParam r))) where
     pub next-param : (c ≡ 1 → ⊥) → AmongParams t q i end (p + 1)
-    next-param e = record { usable = w .usable; is-link = w .is-link; looking = onward (w .looking) l is told e }
+    next-param e = record { is-link = w .is-link; looking = onward (w .looking) l is told e }
 
     pub first-run : {k : ℕ} → c ≡ 1 → NextRun (t .text) (r .value .to .0) (r .value .from .0) k
         → AmongRuns (t .text) q (has t q i) (r .value .to .0) k

@@ -1,7 +1,8 @@
 // Search: the lowest link number of a table that has a relation.
+ghost use Rattle.octets.specs.declared.editions.Edition.the-variants.{Rfc5988};
 ghost use Rattle.tables.specs.Table.{tableOf};
 ghost use Rattle.outcomes.specs.Usable.{Usable};
-ghost use Rattle.outcomes.specs.Search.{Search};
+ghost use Rattle.outcomes.specs.Search.{Searched, Search};
 ghost use Rattle.answers.specs.Search.{searchNumbers, searchOut};
 use answers::Refusal;
 use answers::search_answer::SearchAnswer;
@@ -21,8 +22,8 @@ fn first_with(
     counts: Counts,
     relation: &[u8],
 ) -> SearchAnswer
-    requires { ⌜ Usable (tableOf (now text) (now links) (now params) (counts .links) (counts .params)) ⌝ }
-    ensures { λ r. ⌜ Search (tableOf (now (text .entry)) (now (links .entry)) (now (params .entry)) (counts .links) (counts .params))
+    requires { ⌜ Usable Rfc5988 (tableOf (now text) (now links) (now params) (counts .links) (counts .params)) ⌝ }
+    ensures { λ r. ⌜ Searched (tableOf (now (text .entry)) (now (links .entry)) (now (params .entry)) (counts .links) (counts .params))
         (now (relation .entry)) (searchOut (searchNumbers r)) ⌝ }
 {
     let mut l = LinkNumber::first();
@@ -63,7 +64,7 @@ pub fn search(
     counts: Counts,
     relation: &[u8],
 ) -> SearchAnswer
-    ensures { λ r. ⌜ Search (tableOf (now (text .entry)) (now (links .entry)) (now (params .entry)) (counts .links) (counts .params))
+    ensures { λ r. ⌜ Search edition (tableOf (now (text .entry)) (now (links .entry)) (now (params .entry)) (counts .links) (counts .params))
         (now (relation .entry)) (searchOut (searchNumbers r)) ⌝ }
 {
     let state = state_of(edition, text, links, params, counts);

@@ -4,6 +4,8 @@ use Prim.Native.Nat.{ℕ, _+_, _≤_, _<_}
 use native.Mathlib.Omega.{arith}
 use mathlib.Core.Path.{_≡_}
 use mathlib.Core.List.{List}
+use Rattle.octets.specs.Editions.{further}
+use Rattle.octets.specs.declared.editions.Edition.the-variants.{Rfc5988}
 use Rattle.grammar.specs.Records.{paramRoom}
 use Rattle.records.specs.Slots.{IsLink, toParam}
 use Rattle.records.specs.declared.LinkRecord.{LinkRecord}
@@ -13,7 +15,7 @@ use Rattle.tables.specs.Good.{InText, GoodParam, Good}
 use Rattle.tables.proofs.InGood.{params-slots, good-param-at, good-link}
 use Rattle.shape.specs.Forms.{GoodRun}
 
-module _ {t : Table} (g : Good t) {i : ℕ} (l : i < t .linkCount) {r : LinkRecord} (is : IsLink (t .linkSlots) i r) where
+module _ {t : Table} (g : Good (further Rfc5988) t) {i : ℕ} (l : i < t .linkCount) {r : LinkRecord} (is : IsLink (t .linkSlots) i r) where
   pub target-span : InText (t .text) (r .target .from .0) (r .target .to .0)
   target-span = rw (is .from, is .to) (good-link g l .target-span)
 
@@ -29,5 +31,5 @@ module _ {s P : List ℕ} {first end : ℕ} (g : GoodRun s P first end) {p : ℕ
   pub in-room : p < paramRoom P
   in-room = omega (arith, g .room)
 
-  pub good-next : {r : ParamRecord} → toParam r ≡ paramAt P p → GoodParam s (toParam r)
+  pub good-next : {r : ParamRecord} → toParam r ≡ paramAt P p → GoodParam (further Rfc5988) s (toParam r)
   good-next is = rw is (g .good p i l)

@@ -8,6 +8,8 @@ use mathlib.Core.List.{List, [], _∷_}
 use lib.ListN.{length, length-append}
 use lib.Seq.{slice, length-slice}
 use borrow.Author.Tests.{lt-ltb}
+use Rattle.octets.specs.Editions.{further}
+use Rattle.octets.specs.declared.editions.Edition.the-variants.{Rfc5988}
 use Rattle.octets.specs.Sets.{all, isToken}
 use Rattle.grammar.specs.Link.{Param}
 use Rattle.grammar.specs.Grammar.{run-more}
@@ -55,12 +57,12 @@ pub record StandsBare (s : List ℕ) (p : Param) : Type 0 where
   pub bare : true ≡ isTokenText (valueOf s p)
   pub len : p .valueTo - p .valueFrom ≡ length (writtenValue (valueOf s p))
 
-module _ {s : List ℕ} {p : Param} (g : GoodParam s p) where
+module _ {s : List ℕ} {p : Param} (g : GoodParam (further Rfc5988) s p) where
   pub token-stands-bare : p .form ≡ 1 → StandsBare s p
   unfolding valueOf
   token-stands-bare f = go (g .value)
     where
-      go : GoodValue s p → StandsBare s p
+      go : GoodValue (further Rfc5988) s p → StandsBare s p
       go (no-value f′ a b) = absurd (omega (arith, f, f′))
       go (quoted-value f′ q) = absurd (omega (arith, f, f′))
       go (token-value f′ t) =

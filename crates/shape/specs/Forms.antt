@@ -3,6 +3,8 @@ use Prim.Native.Nat.{ℕ, _-_, _≤_, _<_}
 use mathlib.Core.Bool.{Bool, true, false, cond}
 use mathlib.Core.List.{List, [], _∷_, _++_, map}
 use lib.Dec.{eqb}
+use Rattle.octets.specs.Editions.{further}
+use Rattle.octets.specs.declared.editions.Edition.the-variants.{Rfc5988}
 use Rattle.grammar.specs.Link.{Link, Param}
 use Rattle.grammar.specs.Records.{paramRoom}
 use Rattle.tables.specs.Table.{paramAt, paramsFrom, linksFrom}
@@ -40,4 +42,4 @@ linksLeft s L P n i = linksForm s (eqb i 0) (linksFrom L P i (n - i))
 pub record GoodRun (s P : List ℕ) (p end : ℕ) : Type 0 where
   pub ordered : p ≤ end
   pub room : end ≤ paramRoom P
-  pub good : (j : ℕ) → p ≤ j → j < end → GoodParam s (paramAt P j)
+  pub good : (j : ℕ) → p ≤ j → j < end → GoodParam (further Rfc5988) s (paramAt P j)

@@ -2,6 +2,8 @@
 ghost use mathlib.Core.Path.{_≡_};
 ghost use Prim.Native.Nat.{_*_, _≤_};
 ghost use lib.ListN.{length};
+ghost use Rattle.octets.specs.Editions.{further};
+ghost use Rattle.octets.specs.declared.editions.Edition.the-variants.{Rfc5988};
 ghost use Rattle.outcomes.specs.Number.{limit};
 ghost use Rattle.records.specs.Slots.{toParam};
 ghost use Rattle.tables.specs.Good.{InText, GoodParam};
@@ -58,7 +60,7 @@ fn meant_len(s: &[u8], part: Span) -> usize
 
 // How many octets a parameter's value takes. A token takes as many as it has, and isn't looked at again.
 pub fn value_len(text: &[u8], p: ParamRecord) -> usize
-    requires { ⌜ GoodParam (now text) (toParam p) ⌝ }
+    requires { ⌜ GoodParam (further Rfc5988) (now text) (toParam p) ⌝ }
     requires { ⌜ length (now text) ≤ limit ⌝ }
     ensures { λ r. ⌜ r ≡ length (writtenValue (valueOf (now (text .entry)) (toParam p))) ⌝ }
 {
@@ -92,7 +94,7 @@ fn means_token(s: &[u8], part: Span) -> bool
 
 // Whether a parameter's value stands bare.
 pub fn is_bare(text: &[u8], p: ParamRecord) -> bool
-    requires { ⌜ GoodParam (now text) (toParam p) ⌝ }
+    requires { ⌜ GoodParam (further Rfc5988) (now text) (toParam p) ⌝ }
     ensures { λ r. ⌜ r ≡ isTokenText (valueOf (now (text .entry)) (toParam p)) ⌝ }
 {
     if p.form == TOKEN {

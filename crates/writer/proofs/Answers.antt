@@ -4,6 +4,7 @@ use native.Mathlib.Omega.{arith}
 use mathlib.Core.Path.{_≡_, sym, _∙_}
 use mathlib.Core.List.{List, _++_}
 use lib.ListN.{length, drop}
+use Rattle.octets.specs.declared.editions.Edition.the-variants.{Rfc5988}
 use Rattle.kinds.specs.Put.{Put}
 use Rattle.kinds.proofs.Stores.{sets-front}
 use Rattle.tables.specs.Table.{Table}
@@ -14,7 +15,7 @@ use Rattle.outcomes.specs.Write.{writtenForm, Related, Write, no-relation, long
 use Rattle.measuring.specs.Measured.{Measured}
 use Rattle.writer.specs.Related.{Unrelated}
 
-module _ {t : Table} (u : Usable t) (out : List ℕ) where
+module _ {t : Table} (u : Usable Rfc5988 t) (out : List ℕ) where
   pub unrelated-answer : Unrelated t → Write t out (untouched out noRelation)
   unrelated-answer r = no-relation u (r .1) (r .2)
 

@@ -7,6 +7,8 @@ use mathlib.Core.Logic.{⊎-elim}
 use mathlib.Core.Bool.{Bool, true, false, not, true≢false, false≢true}
 use mathlib.Core.List.{List, [], _∷_}
 use borrow.Author.Tests.{not-true, not-false}
+use Rattle.octets.specs.Editions.{further}
+use Rattle.octets.specs.declared.editions.Edition.the-variants.{Rfc5988}
 use Rattle.tables.specs.Table.{Table}
 use Rattle.tables.specs.Relation.{runs, runsOf, relations}
 use Rattle.outcomes.specs.Write.{relationsAt}
@@ -30,7 +32,7 @@ module _ (s P : List ℕ) (l : LinkRecord) where
   no-rel e = sym (ap (λ o. not (isNone (runsOf s o))) (by-rel s ((toLink P l) .params) ∙ e))
 
   module _ {p : ParamRecord} (h : Listed s P l) (e : FirstNamed s P l 1 (Found p)) where
-    rel-good : GoodParam s (toParam p)
+    rel-good : GoodParam (further Rfc5988) s (toParam p)
     rel-good = coded-each s 1 (h .params) e
 
     pub rel-span : InText s (p .value .from .0) (p .value .to .0)

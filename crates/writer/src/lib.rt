@@ -1,5 +1,6 @@
 // Writes a table in its written form. Relations are asked of every link, the form is measured, the limit and the room are tested,
 // and then it is written; so a refusal leaves the buffer as it was.
+ghost use Rattle.octets.specs.declared.editions.Edition.the-variants.{Rfc5988};
 ghost use Rattle.answers.specs.Length.{lengthNumbers, lengthOut};
 ghost use Rattle.outcomes.specs.Usable.{Usable};
 ghost use Rattle.outcomes.specs.Write.{Write};
@@ -23,7 +24,7 @@ fn write_table(
     counts: Counts,
     out: &mut [u8],
 ) -> LengthAnswer
-    requires { ⌜ Usable (tableOf (now text) (now links) (now params) (counts .links) (counts .params)) ⌝ }
+    requires { ⌜ Usable Rfc5988 (tableOf (now text) (now links) (now params) (counts .links) (counts .params)) ⌝ }
     ensures { λ r. ⌜ Write (tableOf (now (text .entry)) (now (links .entry)) (now (params .entry)) (counts .links) (counts .params))
         (now (out .entry)) (lengthOut (lengthNumbers r) (now (out .exit))) ⌝ }
 {

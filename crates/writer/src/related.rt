@@ -1,6 +1,7 @@
 // Whether the links have relations.
 ghost use mathlib.Core.Path.{_≡_};
 ghost use mathlib.Core.Bool.{not};
+ghost use Rattle.octets.specs.declared.editions.Edition.the-variants.{Rfc5988};
 ghost use Rattle.named.specs.First.{Listed};
 ghost use Rattle.outcomes.specs.Usable.{Usable};
 ghost use Rattle.records.specs.Slots.{toLink};
@@ -30,7 +31,7 @@ fn is_related(text: &[u8], params: &[usize], l: LinkRecord) -> bool
 
 // Whether every link has a relation.
 pub fn all_related(text: &[u8], links: &[usize], params: &[usize], counts: Counts) -> bool
-    requires { ⌜ Usable (tableOf (now text) (now links) (now params) (counts .links) (counts .params)) ⌝ }
+    requires { ⌜ Usable Rfc5988 (tableOf (now text) (now links) (now params) (counts .links) (counts .params)) ⌝ }
     ensures { λ r. ⌜
         TellsRelated (tableOf (now (text .entry)) (now (links .entry)) (now (params .entry)) (counts .links) (counts .params)) r ⌝ }
 {

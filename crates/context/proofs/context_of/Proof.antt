@@ -1,6 +1,7 @@
 -- A refused table is refused, and a link that is not there.
 use borrow.Author.Needs.{needs}
-use Rattle.outcomes.specs.Context.{refused, no-such-link}
+use Rattle.table_check.proofs.EntryOutcomes.{state-refused, in-older}
+use Rattle.context.proofs.Anchored.{is-there, not-there}
 use Rattle.context.proofs.context_of.Statement.{statement}
 use Rattle.context.proofs.context_of.Tie as tie
 
@@ -14,19 +15,23 @@ enum-told : tie.Need-enum-told
 enum-told c = search needs
 
 anchor-of-requires : tie.Need-anchor-of-requires
-anchor-of-requires c κs = (rw (c .before .before .before .enum-told .given .1) at (c .before .before .before .before .before .state-of .ensures), c .if1 .taken)
+anchor-of-requires c κs =
+    let usable = rw (c .before .before .before .enum-told .given .1) at (c .before .before .before .before .before .state-of .ensures) in
+    (in-older usable, c .if1 .taken)
 
 returns : tie.Need-returns
 returns c =
-    record { outcome = λ base. refused (rw (c .before .state .given .1) at (c .before .before .before .state-of .ensures)); within = tt }
+    record { outcome = λ base. state-refused (rw (c .before .state .given .1) at (c .before .before .before .state-of .ensures)); within = tt }
 
 returns-2 : tie.Need-returns-2
-returns-2 c = search needs
+returns-2 c =
+    let usable = rw (c .before .before .before .before .enum-told .given .1) at (c .before .before .before .before .before .before .state-of .ensures) in
+    is-there usable (c .anchor-of .ensures)
 
 returns-3 : tie.Need-returns-3
 returns-3 c =
     let usable = rw (c .before .before .before .enum-told .given .1) at (c .before .before .before .before .before .state-of .ensures) in
-    record { outcome = λ base. no-such-link usable (c .if1 .left); within = tt }
+    not-there usable (c .if1 .left)
 
 pub context-of-spec : {M : Type 1} → statement M
 context-of-spec =

@@ -7,7 +7,7 @@ use Rattle.copy.proofs.copy_at.Statement.{statement}
 use Rattle.copy.proofs.copy_at.Tie as tie
 
 returns : tie.Need-returns
-returns c = no-such-link (c .before .before .before .before .before .before .before .pre) (c .if1 .taken)
+returns c = no-such-link (c .if1 .taken)
 
 link-at-requires : tie.Need-link-at-requires
 link-at-requires c κs = search needs
@@ -16,7 +16,7 @@ returns-2 : tie.Need-returns-2
 returns-2 c =
     let link = c .before .before in
     let start = link .before .before .before .before .before .before .before .before in
-    no-such-param (start .pre) (link .before .if1 .left)
+    no-such-param (link .before .if1 .left)
     (counted (start .pre) (link .before .if1 .left) (link .link-at .ensures) (c .if2 .taken))
 
 plus-requires : tie.Need-plus-requires

@@ -1,6 +1,6 @@
 -- A refused table is refused, and on a usable one the value is copied.
 use borrow.Author.Needs.{needs}
-use Rattle.outcomes.specs.Copy.{refused}
+use Rattle.table_check.proofs.EntryOutcomes.{state-refused, state-usable, in-older}
 use Rattle.copy.proofs.value.Statement.{statement}
 use Rattle.copy.proofs.value.Tie as tie
 
@@ -14,16 +14,18 @@ enum-told : tie.Need-enum-told
 enum-told c = search needs
 
 copy-at-requires : tie.Need-copy-at-requires
-copy-at-requires c κs = rw (c .before .enum-told .given .1) at (c .before .before .before .state-of .ensures)
+copy-at-requires c κs = in-older (rw (c .before .enum-told .given .1) at (c .before .before .before .state-of .ensures))
 
 returns : tie.Need-returns
-returns c = refused (rw (c .before .state .given .1) at (c .before .before .before .state-of .ensures))
+returns c = state-refused (rw (c .before .state .given .1) at (c .before .before .before .state-of .ensures))
 
 same-length : tie.Need-same-length
 same-length c = search needs
 
 returns-2 : tie.Need-returns-2
-returns-2 c = search needs
+returns-2 c =
+    let told = c .before .before .before .before .enum-told .given .1 in
+    state-usable (rw told at (c .before .before .before .before .before .before .state-of .ensures)) (c .before .before .copy-at .ensures)
 
 pub value-spec : {M : Type 1} → statement M
 value-spec =

@@ -149,15 +149,14 @@ search-again c =
 
 returns : tie.Need-returns Inv-loop2 μ-loop2 Inv-loop μ-loop Inv-search μ-search
 returns c =
-    let start = c .before .before .before .before .before .before .before .before .before in
-    no-link (start .pre) (λ i h. c .before .before .before .search .inv i (omega (arith, c .if1 .taken)))
+    no-link (λ i h. c .before .before .before .search .inv i (omega (arith, c .if1 .taken)))
 
 returns-2 : tie.Need-returns-2 Inv-loop2 μ-loop2 Inv-loop μ-loop Inv-search μ-search
 returns-2 c =
     let b1 = c .before .before .before .before .before in
     let b2 = b1 .before .before .before .before .before .before .before .before .before in
     let b3 = b2 .before .before .before .before .before .before .before in
-    let loop′ = b2 .loop in let loop2′ = b1 .loop2 in let search′ = b3 .search in found (loop′ .inv .usable) (loop′ .inv .is-link)
+    let loop′ = b2 .loop in let loop2′ = b1 .loop2 in let search′ = b3 .search in found (loop′ .inv .is-link)
     (matched (loop2′ .inv) (c .before .match-run .ensures) (c .if5 .taken)) (search′ .inv)
 
 pub first-with-spec : {M : Type 1} → statement M

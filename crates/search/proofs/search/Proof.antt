@@ -1,6 +1,6 @@
 -- A refused table is refused, and on a usable one the relation is looked for.
 use borrow.Author.Needs.{needs}
-use Rattle.outcomes.specs.Search.{refused}
+use Rattle.table_check.proofs.EntryOutcomes.{state-refused, state-usable, in-older}
 use Rattle.search.proofs.search.Statement.{statement}
 use Rattle.search.proofs.search.Tie as tie
 
@@ -14,13 +14,13 @@ enum-told : tie.Need-enum-told
 enum-told c = search needs
 
 first-with-requires : tie.Need-first-with-requires
-first-with-requires c κs = rw (c .enum-told .given .1) at (c .before .before .state-of .ensures)
+first-with-requires c κs = in-older (rw (c .enum-told .given .1) at (c .before .before .state-of .ensures))
 
 returns : tie.Need-returns
-returns c = refused (rw (c .before .state .given .1) at (c .before .before .before .state-of .ensures))
+returns c = state-refused (rw (c .before .state .given .1) at (c .before .before .before .state-of .ensures))
 
 returns-2 : tie.Need-returns-2
-returns-2 c = search needs
+returns-2 c = state-usable (rw (c .before .enum-told .given .1) at (c .before .before .before .state-of .ensures)) (c .first-with .ensures)
 
 pub search-spec : {M : Type 1} → statement M
 search-spec =
