@@ -13,7 +13,7 @@ use Rattle.octets.specs.declared.editions.Edition.the-variants.{Rfc5988}
 use Rattle.octets.specs.Sets.{all, isToken}
 use Rattle.grammar.specs.Link.{Param}
 use Rattle.grammar.specs.Grammar.{run-more}
-use Rattle.tables.specs.Good.{GoodValue, no-value, token-value, quoted-value, GoodParam}
+use Rattle.tables.specs.Good.{GoodValue, no-value, token-value, quoted-value, wider-value, GoodParam}
 use Rattle.tables.specs.Meaning.{valueOf}
 use Rattle.tables.specs.Written.{isTokenText, escape, writtenValue}
 use Rattle.tables.proofs.Texts.{run-le, run-text}
@@ -65,6 +65,7 @@ module _ {s : List ℕ} {p : Param} (g : GoodParam (further Rfc5988) s p) where
       go : GoodValue (further Rfc5988) s p → StandsBare s p
       go (no-value f′ a b) = absurd (omega (arith, f, f′))
       go (quoted-value f′ q) = absurd (omega (arith, f, f′))
+      go (wider-value f′ w) = absurd (omega (arith, f, f′))
       go (token-value f′ t) =
           let v = slice (p .valueFrom) (p .valueTo) s in
           let n = length-slice (p .valueFrom) (p .valueTo) s (g .value-span .inside) in

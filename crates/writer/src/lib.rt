@@ -3,7 +3,7 @@
 ghost use Rattle.octets.specs.declared.editions.Edition.the-variants.{Rfc5988};
 ghost use Rattle.answers.specs.Length.{lengthNumbers, lengthOut};
 ghost use Rattle.outcomes.specs.Usable.{Usable};
-ghost use Rattle.outcomes.specs.Write.{Write};
+ghost use Rattle.outcomes.specs.Write.{Wrote, Write};
 ghost use Rattle.tables.specs.Table.{tableOf};
 use answers::LIMIT;
 use answers::Refusal;
@@ -25,7 +25,7 @@ fn write_table(
     out: &mut [u8],
 ) -> LengthAnswer
     requires { ⌜ Usable Rfc5988 (tableOf (now text) (now links) (now params) (counts .links) (counts .params)) ⌝ }
-    ensures { λ r. ⌜ Write (tableOf (now (text .entry)) (now (links .entry)) (now (params .entry)) (counts .links) (counts .params))
+    ensures { λ r. ⌜ Wrote (tableOf (now (text .entry)) (now (links .entry)) (now (params .entry)) (counts .links) (counts .params))
         (now (out .entry)) (lengthOut (lengthNumbers r) (now (out .exit))) ⌝ }
 {
     if !related::all_related(text, links, params, counts) {
@@ -51,7 +51,7 @@ pub fn write(
     counts: Counts,
     out: &mut [u8],
 ) -> LengthAnswer
-    ensures { λ r. ⌜ Write (tableOf (now (text .entry)) (now (links .entry)) (now (params .entry)) (counts .links) (counts .params))
+    ensures { λ r. ⌜ Write edition (tableOf (now (text .entry)) (now (links .entry)) (now (params .entry)) (counts .links) (counts .params))
         (now (out .entry)) (lengthOut (lengthNumbers r) (now (out .exit))) ⌝ }
 {
     let state = state_of(edition, text, links, params, counts);

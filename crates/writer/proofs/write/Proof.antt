@@ -1,5 +1,5 @@
 -- A refused table is refused, and a usable one is written.
-use Rattle.outcomes.specs.Write.{refused}
+use Rattle.table_check.proofs.EntryOutcomes.{state-refused, state-usable, in-older}
 use borrow.Author.Needs.{needs}
 use Rattle.writer.proofs.write.Statement.{statement}
 use Rattle.writer.proofs.write.Tie as tie
@@ -14,16 +14,18 @@ enum-told : tie.Need-enum-told
 enum-told c = search needs
 
 write-table-requires : tie.Need-write-table-requires
-write-table-requires c κs = rw (c .before .enum-told .given .1) at (c .before .before .before .state-of .ensures)
+write-table-requires c κs = in-older (rw (c .before .enum-told .given .1) at (c .before .before .before .state-of .ensures))
 
 returns : tie.Need-returns
-returns c = refused (rw (c .before .state .given .1) at (c .before .before .before .state-of .ensures))
+returns c = state-refused (rw (c .before .state .given .1) at (c .before .before .before .state-of .ensures))
 
 same-length : tie.Need-same-length
 same-length c = search needs
 
 returns-2 : tie.Need-returns-2
-returns-2 c = search needs
+returns-2 c =
+    let told = c .before .before .before .before .enum-told .given .1 in
+    state-usable (rw told at (c .before .before .before .before .before .before .state-of .ensures)) (c .before .before .write-table .ensures)
 
 pub write-spec : {M : Type 1} → statement M
 write-spec =

@@ -11,7 +11,7 @@ all-related-requires c κs = search needs
 returns : tie.Need-returns
 returns c =
     let start = c .before .before .before .before .before .before in
-    unrelated-answer (start .pre) (start .args .out .now) (c .before .all-related .ensures .unrelated (not-true _ (c .if1 .taken)))
+    unrelated-answer (start .args .out .now) (c .before .all-related .ensures .unrelated (not-true _ (c .if1 .taken)))
 
 form-len-requires : tie.Need-form-len-requires
 form-len-requires c κs = search needs
@@ -20,7 +20,7 @@ returns-2 : tie.Need-returns-2
 returns-2 c =
     let start = c .before .before .before .before .before .before .before .before in
     let related = c .before .before .before .all-related .ensures .related (not-false _ (c .before .before .if1 .left)) in
-    long-answer (start .pre) (start .args .out .now) related (c .before .form-len .ensures) (c .if2 .taken)
+    long-answer (start .args .out .now) related (c .before .form-len .ensures) (c .if2 .taken)
 
 returns-3 : tie.Need-returns-3
 returns-3 c =
@@ -30,18 +30,15 @@ returns-3 c =
     let form-len′ = c .before .before .form-len in
     let if2′ = c .before .if2 in
     let related = all-related′ .ensures .related (not-false _ (if1′ .left)) in
-    short-answer (start .pre) (start .args .out .now) related (form-len′ .ensures) (if2′ .left) (c .if3 .taken)
+    short-answer (start .args .out .now) related (form-len′ .ensures) (if2′ .left) (c .if3 .taken)
 
 put-links-requires : tie.Need-put-links-requires
 put-links-requires c κs =
-    let all-related′ = c .before .before .before .before .before .all-related in
-    let if1′ = c .before .before .before .before .if1 in
     let start = c .before .before .before .before .before .before .before .before .before .before in
     let form-len′ = c .before .before .before .form-len in
     let if2′ = c .before .before .if2 in
     let if3′ = c .before .if3 in
-    let related = all-related′ .ensures .related (not-false _ (if1′ .left)) in
-    (start .pre, fits-buffer (start .pre) (start .args .out .now) related (form-len′ .ensures) (if2′ .left) (if3′ .left))
+    (start .pre, fits-buffer (form-len′ .ensures) (if2′ .left) (if3′ .left))
 
 same-length : tie.Need-same-length
 same-length c = search needs
@@ -55,7 +52,7 @@ returns-4 c =
     let if2′ = c .before .before .before .before .before .if2 in
     let if3′ = c .before .before .before .before .if3 in
     let related = all-related′ .ensures .related (not-false _ (if1′ .left)) in
-    written-answer (start .pre) (start .args .out .now) related (form-len′ .ensures) (if2′ .left) (if3′ .left)
+    written-answer (start .args .out .now) related (form-len′ .ensures) (if2′ .left) (if3′ .left)
     (c .before .before .put-links .ensures)
 
 pub write-table-spec : {M : Type 1} → statement M
