@@ -15,7 +15,7 @@ use kinds::LinkNumber;
 use named::Named;
 use table_check::TableState;
 
-// Where the context of a link lies that is there.
+// Where the context of a link lies that is there. The older edition stands for all: what is good in any of them is good in it.
 fn anchor_of(
     text: &[u8],
     links: &[usize],

@@ -14,7 +14,8 @@ use table_check::state_of;
 use values::copy_meaning;
 use values::meaning_len;
 
-// Measures the meaning of the value, and writes it if there is room.
+// Measures the meaning of the value, and writes it if there is room. The older edition stands for all: what is good in any of them is
+// good in it.
 fn copy_at(
     text: &[u8],
     links: &[usize],

@@ -16,7 +16,7 @@ use Rattle.records.specs.declared.LinkRecord.{LinkRecord}
 use Rattle.named.specs.declared.Named.{Named}
 use Rattle.named.specs.declared.Named.the-variants.{Found, Absent}
 
--- the parameters of a link's record lie in the slots P, and each is good
+-- the parameters of a link's record lie in the slots P, and each is good in the older edition, as what is good in any edition is
 pub record Listed (s P : List ℕ) (l : LinkRecord) : Type 0 where
   pub room : l .first .0 + l .count ≤ paramRoom P
   pub params : Each (GoodParam (further Rfc5988) s) ((toLink P l) .params)

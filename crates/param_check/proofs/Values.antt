@@ -49,7 +49,8 @@ module _ {extra : Extra} {s : List ℕ} {p : Param} where
   pub of-wider : {r : Bool} → p .form ≡ 3 → Decides r (Wider extra s (p .valueFrom) (p .valueTo)) → Decides r (GoodValue extra s p)
   of-wider f = also (wider-value f) (wider-from f)
 
-  pub no-form : (p .form ≡ 0 → ⊥) → (p .form ≡ 1 → ⊥) → (p .form ≡ 2 → ⊥) → (p .form ≡ 3 → ⊥) → Decides false (GoodValue extra s p)
+  pub no-form : (p .form ≡ 0 → ⊥) → (p .form ≡ 1 → ⊥) → (p .form ≡ 2 → ⊥) → (p .form ≡ 3 → ⊥)
+      → Decides false (GoodValue extra s p)
   no-form a b c d = not-so refuted
     where
       refuted : GoodValue extra s p → ⊥

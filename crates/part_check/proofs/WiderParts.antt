@@ -1,5 +1,5 @@
--- A part is a wider value if the run of token octets from its start ends before it does, and the run of bare octets from there ends where
--- it does.
+-- A part is a wider value if the run of token octets from its start ends before it does, and the run of bare octets from there ends
+-- where it does.
 use Prim.Native.Nat.{ℕ, suc, _≤_, _<_}
 use native.Mathlib.Omega.{arith}
 use mathlib.Core.Path.{_≡_, refl, sym, subst, _∙_}
@@ -52,7 +52,8 @@ module _ (ed : Edition) (s : List ℕ) {a e k j : ℕ} (h : InText s a e) (p : P
   ends (from-token {k = m} t x r) =
       let l : suc m ≤ e = run-le s r in
       let at : k ≡ m = meets t x l in
-      let rest : Run s (isBare (further ed)) m e = run-more (record { inside = x .inside; is = or-true (isToken (getD s m 0)) (x .is) }) r in
+      let bare = or-true (isToken (getD s m 0)) (x .is) in
+      let rest : Run s (isBare (further ed)) m e = run-more (record { inside = x .inside; is = bare }) r in
       (omega arith, reached s (h .inside) q (subst (λ (n : ℕ). Run s (isBare (further ed)) n e) (sym at) rest))
 
   pub wider-told : Decides (ltb k e && eqb j e) (Wider (further ed) s a e)

@@ -14,7 +14,8 @@ use table_check::TableState;
 use table_check::state_of;
 
 // Over the links, over a link's parameters, and over the runs of its `rel` value. The first run that matches leaves all three with the
-// link's number, and a link's first `rel` is the only one that is asked.
+// link's number, and a link's first `rel` is the only one that is asked. The older edition stands for all: what is good
+// in any of them is good in it.
 fn first_with(
     text: &[u8],
     links: &[usize],

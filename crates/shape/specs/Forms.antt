@@ -38,7 +38,8 @@ linksForm s first (l ∷ ls) = parting first ++ (linkForm s l ++ linksForm s fal
 abbrev pub linksLeft : List ℕ → List ℕ → List ℕ → ℕ → ℕ → List ℕ
 linksLeft s L P n i = linksForm s (eqb i 0) (linksFrom L P i (n - i))
 
--- the parameter records from number p up to `end` have room in the slots P, and are good
+-- the parameter records from number p up to `end` have room in the slots P, and are good in the older edition, as what is good in any
+-- edition is
 pub record GoodRun (s P : List ℕ) (p end : ℕ) : Type 0 where
   pub ordered : p ≤ end
   pub room : end ≤ paramRoom P

@@ -20,7 +20,8 @@ use Rattle.tables.proofs.Texts.{unescape-plain, run-text, wider-run}
 use Rattle.values.specs.Rest.{rest}
 
 -- octets of a set that stand for themselves in a quoted string
-unescape-bare : {f : ℕ → Bool} → ((c : ℕ) → f c ≡ true → isPlain c ≡ true) → (v : List ℕ) → all f v ≡ true → unescapeFrom false v ≡ v
+unescape-bare : {f : ℕ → Bool} → ((c : ℕ) → f c ≡ true → isPlain c ≡ true) → (v : List ℕ) → all f v ≡ true
+    → unescapeFrom false v ≡ v
 unescape-bare plain [] h = refl
 unescape-bare {f} plain (c ∷ v) h =
     let b = both (f c) (all f v) h in
@@ -40,8 +41,9 @@ value-meant {s} {p} g = go (g .value)
     go : GoodValue (further Rfc5988) s p → valueOf s p ≡ rest s (p .valueTo) (p .valueFrom)
     go (no-value f a b) = rw (f, a, b, slice-empty (p .nameTo) s)
     go (token-value f t) =
-        rw f
-        (sym (unescape-bare token-plain (slice (p .valueFrom) (p .valueTo) s) (run-text s (g .value-span .inside) (run-more (t .first) (t .rest)))))
+        let tokens = run-text s (g .value-span .inside) (run-more (t .first) (t .rest)) in
+        rw f (sym (unescape-bare token-plain (slice (p .valueFrom) (p .valueTo) s) tokens))
     go (quoted-value f q) = rw f
     go (wider-value f w) =
-        rw f (sym (unescape-bare bare-plain (slice (p .valueFrom) (p .valueTo) s) (run-text s (g .value-span .inside) (wider-run s w))))
+        let octets = run-text s (g .value-span .inside) (wider-run s w) in
+        rw f (sym (unescape-bare bare-plain (slice (p .valueFrom) (p .valueTo) s) octets))

@@ -16,7 +16,7 @@ use table_check::state_of;
 
 mod related;
 
-// Writes a table that may be used.
+// Writes a table that may be used. The older edition stands for all: what is good in any of them is good in it.
 fn write_table(
     text: &[u8],
     links: &[usize],

@@ -16,7 +16,8 @@ enum-told c = search needs
 
 anchor-of-requires : tie.Need-anchor-of-requires
 anchor-of-requires c κs =
-    let usable = rw (c .before .before .before .enum-told .given .1) at (c .before .before .before .before .before .state-of .ensures) in
+    let told = c .before .before .before .enum-told .given .1 in
+    let usable = rw told at (c .before .before .before .before .before .state-of .ensures) in
     (in-older usable, c .if1 .taken)
 
 returns : tie.Need-returns
@@ -25,7 +26,8 @@ returns c =
 
 returns-2 : tie.Need-returns-2
 returns-2 c =
-    let usable = rw (c .before .before .before .before .enum-told .given .1) at (c .before .before .before .before .before .before .state-of .ensures) in
+    let told = c .before .before .before .before .enum-told .given .1 in
+    let usable = rw told at (c .before .before .before .before .before .before .state-of .ensures) in
     is-there usable (c .anchor-of .ensures)
 
 returns-3 : tie.Need-returns-3

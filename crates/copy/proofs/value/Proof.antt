@@ -25,7 +25,8 @@ same-length c = search needs
 returns-2 : tie.Need-returns-2
 returns-2 c =
     let told = c .before .before .before .before .enum-told .given .1 in
-    state-usable (rw told at (c .before .before .before .before .before .before .state-of .ensures)) (c .before .before .copy-at .ensures)
+    let usable = rw told at (c .before .before .before .before .before .before .state-of .ensures) in
+    state-usable usable (c .before .before .copy-at .ensures)
 
 pub value-spec : {M : Type 1} → statement M
 value-spec =

@@ -22,7 +22,8 @@ past-further-requires c κs =
 
 returns : tie.Need-returns
 returns c =
-    wider-told (c .before .before .before .before .before .before .before .before .args .edition) _ (c .before .before .before .before .before .before .before .before .pre) (c .before .before .before .before .past-token .ensures)
+    let start = c .before .before .before .before .before .before .before .before in
+    wider-told (start .args .edition) _ (start .pre) (c .before .before .before .before .past-token .ensures)
     (c .before .before .past-further .ensures)
 
 pub is-wider-part-spec : {M : Type 1} → statement M

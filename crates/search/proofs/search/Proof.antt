@@ -20,7 +20,8 @@ returns : tie.Need-returns
 returns c = state-refused (rw (c .before .state .given .1) at (c .before .before .before .state-of .ensures))
 
 returns-2 : tie.Need-returns-2
-returns-2 c = state-usable (rw (c .before .enum-told .given .1) at (c .before .before .before .state-of .ensures)) (c .first-with .ensures)
+returns-2 c =
+    state-usable (rw (c .before .enum-told .given .1) at (c .before .before .before .state-of .ensures)) (c .first-with .ensures)
 
 pub search-spec : {M : Type 1} → statement M
 search-spec =

@@ -22,8 +22,8 @@ returns c = unknown (rw (c .enum-told .given .1) at (c .before .before .edition-
 
 returns-2 : tie.Need-returns-2
 returns-2 c =
-    state-known _ _ (c .state-in .result) (rw (c .before .before .known .given .1) at (c .before .before .before .before .edition-of .ensures))
-    (c .state-in .ensures)
+    let numbered = rw (c .before .before .known .given .1) at (c .before .before .before .before .edition-of .ensures) in
+    state-known _ _ (c .state-in .result) numbered (c .state-in .ensures)
 
 pub state-of-spec : {M : Type 1} → statement M
 state-of-spec =
