@@ -158,18 +158,18 @@ module _ (ed : Edition) {st : Feeding} {part buffer : List ℕ} where
           (λ b. x .none (begins-front (further ed) octets part b), still-stuck (x .none) (x .place) part))
 
 -- a refusal's state, its total written another way
-total-as : {st next : Feeding} {p r m k : ℕ} → next ≡ movedTo st p r k → r ≡ m → next ≡ movedTo st p m k
-total-as {st} {p = p} {k = k} n e = n ∙ ap (λ (t : ℕ). movedTo st p t k) e
+total-as : (st : Feeding) {next : Feeding} {p r m k : ℕ} → next ≡ movedTo st p r k → r ≡ m → next ≡ movedTo st p m k
+total-as st {p = p} {k = k} n e = n ∙ ap (λ (t : ℕ). movedTo st p t k) e
 
 -- the same with the total as the code counts it
 module _ (ed : Edition) (st : Feeding) {next : Feeding} (part : List ℕ) {buffer : List ℕ} {r : ℕ} (large : limit ≤ length buffer)
     (e : r ≡ min (st .total + length part) (suc limit))
     (n : next ≡ movedTo st (st .phase) r (st .place)) where
   pub counted-over : limit < r → FeedsIn st part buffer ed (unstored buffer tooLong 0) next
-  counted-over l = rw (total-as {m = suc limit} n (omega arith)) (too-much ed large (omega arith))
+  counted-over l = rw (total-as st {m = suc limit} n (omega arith)) (too-much ed large (omega arith))
 
   pub counted-faulty : r ≤ limit → st .place < st .total → FeedsIn st part buffer ed (unstored buffer malformedHeader (st .place)) next
-  counted-faulty h l = rw (total-as {m = st .total + length part} n (omega arith)) (still-faulty ed large (omega arith) l)
+  counted-faulty h l = rw (total-as st {m = st .total + length part} n (omega arith)) (still-faulty ed large (omega arith) l)
 
 module _ (ed : Edition) {st : Feeding} {part buffer : List ℕ} (t : Takes st part buffer) where
   -- the part has a fault

@@ -16,8 +16,8 @@ returns-2 c = too-long _ (c .before .if1 .left) (c .if2 .taken)
 returns-3 : tie.Need-returns-3
 returns-3 c = faulty _ (c .before .before .if1 .left) (c .before .if2 .left) (c .if3 .taken)
 
-slice-aggregate-read : tie.Need-slice-aggregate-read
-slice-aggregate-read c =
+slice-aggregate-read-in : tie.Need-slice-aggregate-read-in
+slice-aggregate-read-in c =
     let b1 = c .before .before in
     let a = b1 .before .before .before .before .before .args in
     sym (length-take-le (a .state .total) (a .gathered .now) (omega (arith, b1 .if2 .left, b1 .before .if1 .left)))
@@ -44,7 +44,7 @@ finish-in-spec =
     returns
     returns-2
     returns-3
-    slice-aggregate-read
+    slice-aggregate-read-in
     read-in-requires
     same-length
     same-length-2
