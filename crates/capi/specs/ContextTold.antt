@@ -14,9 +14,9 @@ use Rattle.answers.specs.declared.context_answer.ContextNumbers.{ContextNumbers
 abbrev pub sourceOctets : List ℕ → List ℕ → ℕ → List ℕ
 sourceOctets text base n = cond (eqb n (sourceNumber of-text)) text base
 
--- the numbers tell the outcome, of which there is one, and the part lies in its source
-pub record ContextTold (t : Table) (base : List ℕ) (i : ℕ) (r : ContextNumbers) : Type 0 where
+-- asked with the number n of an edition, the numbers tell the outcome, of which there is one, and the part lies in its source
+pub record ContextTold (n : ℕ) (t : Table) (base : List ℕ) (i : ℕ) (r : ContextNumbers) : Type 0 where
   pub out : ContextOut
-  pub outcome : Context t base i out
+  pub outcome : Context n t base i out
   pub numbers : r ≡ contextNumbers out
   pub within : InText (sourceOctets (t .text) base (r .source)) (r .start) (r .end)

@@ -16,48 +16,69 @@ fn put_octets(number: usize, octets: &[u8]) {
 }
 
 // Which link has the relation `next`.
-fn search(text: &[u8], links: &[usize], params: &[usize], counts: Counts) {
+fn search(edition: usize, text: &[u8], links: &[usize], params: &[usize], counts: Counts) {
     io::write_all(1, b"search");
-    let told = search::search(text, links, params, counts, b"next").numbers();
+    let told = search::search(edition, text, links, params, counts, b"next").numbers();
     put_number(told.number);
     put_number(told.link);
     io::write_all(1, b"\n");
 }
 
 // The context of the first link.
-fn context<'a>(text: &'a [u8], base: &'a [u8], links: &[usize], params: &[usize], counts: Counts) {
+fn context<'a>(
+    edition: usize,
+    text: &'a [u8],
+    base: &'a [u8],
+    links: &[usize],
+    params: &[usize],
+    counts: Counts,
+) {
     io::write_all(1, b"context");
     let first = LinkNumber::first();
-    let answer = context::context_number(text, base, links, params, counts, first);
+    let answer = context::context_number(edition, text, base, links, params, counts, first);
     put_octets(
         answer.numbers(base.len()).number,
-        context::context(text, base, links, params, counts, first),
+        context::context(edition, text, base, links, params, counts, first),
     );
 }
 
 // The value of the first link's first parameter.
-fn value(text: &[u8], links: &[usize], params: &[usize], counts: Counts, out: &mut [u8]) {
+fn value(
+    edition: usize,
+    text: &[u8],
+    links: &[usize],
+    params: &[usize],
+    counts: Counts,
+    out: &mut [u8],
+) {
     io::write_all(1, b"value");
-    let told = copy::value(text, links, params, counts, LinkNumber::first(), 0, out).numbers();
+    let told = copy::value(edition, text, links, params, counts, LinkNumber::first(), 0, out).numbers();
     let n = told.length;
     put_octets(told.number, &out[..n]);
 }
 
 // The table in its written form.
-fn written(text: &[u8], links: &[usize], params: &[usize], counts: Counts, out: &mut [u8]) {
+fn written(
+    edition: usize,
+    text: &[u8],
+    links: &[usize],
+    params: &[usize],
+    counts: Counts,
+    out: &mut [u8],
+) {
     io::write_all(1, b"written");
-    let told = writer::write(text, links, params, counts, out).numbers();
+    let told = writer::write(edition, text, links, params, counts, out).numbers();
     let n = told.length;
     put_octets(told.number, &out[..n]);
 }
 
 // Asks for the relation `next`, for the first link's context, for its first parameter's value in 32 octets, and for the written form
 // in 512.
-pub fn all(text: &[u8], links: &[usize], params: &[usize], counts: Counts) {
-    search(text, links, params, counts);
-    context(text, b"BASE", links, params, counts);
+pub fn all(edition: usize, text: &[u8], links: &[usize], params: &[usize], counts: Counts) {
+    search(edition, text, links, params, counts);
+    context(edition, text, b"BASE", links, params, counts);
     let mut out = [0u8; 32];
-    value(text, links, params, counts, &mut out);
+    value(edition, text, links, params, counts, &mut out);
     let mut form = [0u8; 512];
-    written(text, links, params, counts, &mut form);
+    written(edition, text, links, params, counts, &mut form);
 }

@@ -1,5 +1,5 @@
-// Lists the headers on standard input, one a line, and headers at the edges of lengths and rooms. The name of a case stands
-// before its listing, behind `#`.
+// Lists the headers on standard input, one a line, in each edition, and headers at the edges of lengths and rooms. The name of a case
+// stands before its listing, behind `#`.
 ghost use mathlib.Core.Path.{_≡_};
 ghost use Prim.Native.Nat.{_+_, _<_, _≤_};
 ghost use lib.ListN.{length};
@@ -11,15 +11,22 @@ use records::PARAM_SLOTS;
 
 mod ask;
 
-// A header that is its own name; if it is read, the table is asked too.
-fn list_header(header: &[u8]) {
+// The number of RFC 8288's edition, and of the older one.
+const RFC8288: usize = 0;
+
+const RFC5988: usize = 1;
+
+// A header that is its own name, behind the number of its edition; if it is read, the table is asked too.
+fn list_header(edition: usize, header: &[u8]) {
     io::write_all(1, b"# ");
+    io::print_decimal(1, edition as u64);
+    io::write_all(1, b" ");
     io::write_all(1, header);
     io::write_all(1, b"\n");
     let mut links = [0usize; 256 * LINK_SLOTS];
     let mut params = [0usize; 1024 * PARAM_SLOTS];
-    if let ReadAnswer::Done(counts) = listing::list(header, &mut links, &mut params) {
-        ask::all(header, &links, &params, counts);
+    if let ReadAnswer::Done(counts) = listing::list(edition, header, &mut links, &mut params) {
+        ask::all(edition, header, &links, &params, counts);
     }
 }
 
@@ -39,7 +46,8 @@ fn list_lines(s: &[u8]) {
     let mut at = 0;
     while at < s.len() {
         let end = line_end(s, at);
-        list_header(&s[at..end]);
+        list_header(RFC8288, &s[at..end]);
+        list_header(RFC5988, &s[at..end]);
         if end == s.len() {
             return;
         }
@@ -58,7 +66,7 @@ fn list_long(header: &mut [u8])
     header[0] = b'<';
     header[n - 1] = b'>';
     let mut links = [0usize; LINK_SLOTS];
-    listing::list(header, &mut links, &mut []);
+    listing::list(RFC8288, header, &mut links, &mut []);
 }
 
 fn run_of_a() -> [u8; LIMIT + 1]
@@ -86,6 +94,7 @@ fn list_room(link_slots: usize, param_slots: usize)
     let mut links = [0usize; 11];
     let mut params = [0usize; 19];
     listing::list(
+        RFC8288,
         b"<a>;x;y,<b>;z",
         &mut links[..link_slots],
         &mut params[..param_slots],
