@@ -1,5 +1,5 @@
 use crate::ffi::{self, FeedingState};
-use crate::{Counts, Refusal, Table, LIMIT};
+use crate::{Counts, Edition, Refusal, Table, LIMIT};
 use core::fmt;
 
 /// A header that arrives in parts: made, fed each part, and finished.
@@ -52,7 +52,7 @@ impl<'a> Feeding<'a> {
     /// ```
     pub fn new(buffer: &'a mut [u8; LIMIT]) -> Feeding<'a> {
         Feeding {
-            state: ffi::start(),
+            state: ffi::start(Edition::Rfc8288.number()),
             buffer,
             length: 0,
         }

@@ -2,6 +2,9 @@
 //!
 //! These functions are safe for every input, also for tables of any numbers: the library is proved
 //! to stay within what it is lent. All the unsafe code of the crate is here.
+//!
+//! An edition is the number of an [`Edition`](crate::Edition); any other number is refused with 10,
+//! before all else.
 
 #![allow(unsafe_code)]
 
@@ -21,16 +24,22 @@ use symbols::{
 ///
 /// ```
 /// let mut links = [0; 4];
-/// let answer = capstanbar::ffi::read(b"<a>", &mut links, &mut []);
+/// let answer = capstanbar::ffi::read(0, b"<a>", &mut links, &mut []);
 /// assert_eq!((answer.number, answer.links, links), (0, 1, [1, 2, 0, 0]));
 /// ```
-pub fn read(header: &[u8], links: &mut [usize], params: &mut [usize]) -> ReadAnswer {
+pub fn read(
+    edition: usize,
+    header: &[u8],
+    links: &mut [usize],
+    params: &mut [usize],
+) -> ReadAnswer {
     // SAFETY: each pointer comes with the length of its slice, so it isn't null, is aligned, and leads
     // to that many values that are set. What is written to comes of a mutable slice, so it overlaps
     // nothing else and no other thread has it. The library keeps no pointer past its return. All this
     // holds of the calls below too.
     unsafe {
         capstan_read(
+            edition,
             header.as_ptr(),
             header.len(),
             links.as_mut_ptr(),
@@ -44,11 +53,11 @@ pub fn read(header: &[u8], links: &mut [usize], params: &mut [usize]) -> ReadAns
 /// The state that a feeding starts with.
 ///
 /// ```
-/// assert_eq!(capstanbar::ffi::start().total, 0);
+/// assert_eq!(capstanbar::ffi::start(0).total, 0);
 /// ```
-pub fn start() -> FeedingState {
+pub fn start(edition: usize) -> FeedingState {
     // SAFETY: nothing is lent.
-    unsafe { capstan_start() }
+    unsafe { capstan_start(edition) }
 }
 
 /// Takes one part more of a header, which the buffer gathers.
@@ -57,7 +66,7 @@ pub fn start() -> FeedingState {
 /// use capstanbar::ffi::{feed, start};
 ///
 /// let mut buffer = [0; 8192];
-/// let answer = feed(start(), b"<a", &mut buffer);
+/// let answer = feed(start(0), b"<a", &mut buffer);
 /// assert_eq!((answer.number, answer.next.total, &buffer[..3]), (0, 2, &b"<a\0"[..]));
 /// assert_eq!(feed(answer.next, b">", &mut [0; 8191]).number, 7);
 /// ```
@@ -80,7 +89,7 @@ pub fn feed(state: FeedingState, part: &[u8], buffer: &mut [u8]) -> FeedAnswer {
 /// use capstanbar::ffi::{feed, finish, start};
 ///
 /// let (mut buffer, mut links) = ([0; 8192], [0; 4]);
-/// let state = feed(start(), b"<a", &mut buffer).next;
+/// let state = feed(start(0), b"<a", &mut buffer).next;
 /// let state = feed(state, b">", &mut buffer).next;
 /// assert_eq!((finish(state, &buffer, &mut links, &mut []).links, links), (1, [1, 2, 0, 0]));
 /// ```
@@ -138,12 +147,13 @@ pub fn compare(a: &[u8], b: &[u8]) -> CompareAnswer {
 /// let (links, params) = ([1, 2, 0, 1], [4, 7, 8, 12, 1]);
 /// let text = b"<a>;rel=next";
 /// let table = RawTable { text, links: &links, params: &params, link_count: 1, param_count: 1 };
-/// assert_eq!(search(table, b"NEXT"), SearchAnswer { number: 0, link: 0 });
+/// assert_eq!(search(0, table, b"NEXT"), SearchAnswer { number: 0, link: 0 });
 /// ```
-pub fn search(table: RawTable<'_>, relation: &[u8]) -> SearchAnswer {
+pub fn search(edition: usize, table: RawTable<'_>, relation: &[u8]) -> SearchAnswer {
     // SAFETY: as in `read`; nothing is lent for writing.
     unsafe {
         capstan_search(
+            edition,
             table.text.as_ptr(),
             table.text.len(),
             table.links.as_ptr(),
@@ -165,12 +175,13 @@ pub fn search(table: RawTable<'_>, relation: &[u8]) -> SearchAnswer {
 ///
 /// let table = RawTable { text: b"<a>", links: &[1, 2, 0, 0], params: &[], link_count: 1, param_count: 0 };
 /// let whole_base = ContextAnswer { number: 0, source: 2, start: 0, end: 4 };
-/// assert_eq!(context(table, b"base", 0), whole_base);
+/// assert_eq!(context(0, table, b"base", 0), whole_base);
 /// ```
-pub fn context(table: RawTable<'_>, base: &[u8], link: usize) -> ContextAnswer {
+pub fn context(edition: usize, table: RawTable<'_>, base: &[u8], link: usize) -> ContextAnswer {
     // SAFETY: as in `read`; nothing is lent for writing.
     unsafe {
         capstan_context(
+            edition,
             table.text.as_ptr(),
             table.text.len(),
             base.as_ptr(),
@@ -195,12 +206,19 @@ pub fn context(table: RawTable<'_>, base: &[u8], link: usize) -> ContextAnswer {
 /// let text = br#"t"a\b""#;
 /// let table = RawTable { text, links: &links, params: &params, link_count: 1, param_count: 1 };
 /// let mut out = *b"....";
-/// assert_eq!((value(table, 0, 0, &mut out).length, &out), (2, b"ab.."));
+/// assert_eq!((value(0, table, 0, 0, &mut out).length, &out), (2, b"ab.."));
 /// ```
-pub fn value(table: RawTable<'_>, link: usize, place: usize, out: &mut [u8]) -> LengthAnswer {
+pub fn value(
+    edition: usize,
+    table: RawTable<'_>,
+    link: usize,
+    place: usize,
+    out: &mut [u8],
+) -> LengthAnswer {
     // SAFETY: as in `read`; the output alone is lent for writing.
     unsafe {
         capstan_value(
+            edition,
             table.text.as_ptr(),
             table.text.len(),
             table.links.as_ptr(),
@@ -225,12 +243,13 @@ pub fn value(table: RawTable<'_>, link: usize, place: usize, out: &mut [u8]) -> 
 /// let (links, params) = ([0, 3, 0, 1], [0, 3, 0, 1, 2]);
 /// let table = RawTable { text: b"Rel", links: &links, params: &params, link_count: 1, param_count: 1 };
 /// let mut out = *b"................";
-/// assert_eq!((write(table, &mut out).length, &out), (12, b"<Rel>; rel=R...."));
+/// assert_eq!((write(0, table, &mut out).length, &out), (12, b"<Rel>; rel=R...."));
 /// ```
-pub fn write(table: RawTable<'_>, out: &mut [u8]) -> LengthAnswer {
+pub fn write(edition: usize, table: RawTable<'_>, out: &mut [u8]) -> LengthAnswer {
     // SAFETY: as in `read`; the output alone is lent for writing.
     unsafe {
         capstan_write(
+            edition,
             table.text.as_ptr(),
             table.text.len(),
             table.links.as_ptr(),

@@ -85,6 +85,7 @@
 #![warn(missing_docs)]
 
 mod compare;
+mod edition;
 mod feeding;
 pub mod ffi;
 mod limits;
@@ -96,6 +97,7 @@ mod refusal;
 mod table;
 
 pub use compare::{compare, Comparison};
+pub use edition::Edition;
 pub use feeding::Feeding;
 pub use limits::{LIMIT, LINK_SLOTS, PARAM_SLOTS};
 pub use link::{Link, Links};

@@ -1,5 +1,5 @@
 use crate::ffi::{self, ReadAnswer};
-use crate::Refusal;
+use crate::{Edition, Refusal};
 
 /// How many links and parameters a table holds.
 ///
@@ -52,5 +52,5 @@ impl Counts {
 /// # Ok::<(), Refusal>(())
 /// ```
 pub fn read(header: &[u8], links: &mut [usize], params: &mut [usize]) -> Result<Counts, Refusal> {
-    Counts::check(ffi::read(header, links, params))
+    Counts::check(ffi::read(Edition::Rfc8288.number(), header, links, params))
 }

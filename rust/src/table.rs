@@ -1,5 +1,5 @@
 use crate::ffi::{self, RawTable};
-use crate::{read, Counts, Link, Links, Refusal, LINK_SLOTS, PARAM_SLOTS};
+use crate::{read, Counts, Edition, Link, Links, Refusal, LINK_SLOTS, PARAM_SLOTS};
 
 /// A good table: a text, and link and parameter records in slots that are lent as long as it lives.
 ///
@@ -78,7 +78,10 @@ impl<'a> Table<'a> {
     ) -> Result<Table<'a>, Refusal> {
         let table = Table::of(text, links, params, counts);
         // No link has the empty relation, so of a good table it isn't found.
-        match Refusal::check(ffi::search(table.raw, b"").number, 0) {
+        match Refusal::check(
+            ffi::search(Edition::Rfc8288.number(), table.raw, b"").number,
+            0,
+        ) {
             Ok(()) | Err(Refusal::NotFound) => Ok(table),
             Err(refusal) => Err(refusal),
         }
@@ -181,7 +184,7 @@ impl<'a> Table<'a> {
     /// # Ok::<(), Refusal>(())
     /// ```
     pub fn search(&self, relation: &[u8]) -> Result<Link<'a>, Refusal> {
-        let answer = ffi::search(self.raw, relation);
+        let answer = ffi::search(Edition::Rfc8288.number(), self.raw, relation);
         Refusal::check(answer.number, 0)?;
         Ok(Link::of(*self, answer.link))
     }
@@ -205,7 +208,7 @@ impl<'a> Table<'a> {
     where
         'a: 'c,
     {
-        let answer = ffi::context(self.raw, base, link);
+        let answer = ffi::context(Edition::Rfc8288.number(), self.raw, base, link);
         Refusal::check(answer.number, 0)?;
         let whole = if answer.source == 1 {
             self.raw.text
@@ -239,7 +242,7 @@ impl<'a> Table<'a> {
         place: usize,
         out: &'o mut [u8],
     ) -> Result<&'o [u8], Refusal> {
-        let answer = ffi::value(self.raw, link, place, out);
+        let answer = ffi::value(Edition::Rfc8288.number(), self.raw, link, place, out);
         Refusal::check(answer.number, 0)?;
         Ok(&out[..answer.length])
     }
@@ -262,7 +265,7 @@ impl<'a> Table<'a> {
     /// # Ok::<(), Refusal>(())
     /// ```
     pub fn write<'o>(&self, out: &'o mut [u8]) -> Result<&'o [u8], Refusal> {
-        let answer = ffi::write(self.raw, out);
+        let answer = ffi::write(Edition::Rfc8288.number(), self.raw, out);
         Refusal::check(answer.number, 0)?;
         Ok(&out[..answer.length])
     }

@@ -53,10 +53,10 @@ fn octets(table: Table) -> usize {
 }
 
 fn assert_refused(raw: RawTable) {
-    assert_eq!(search(raw, b"x").number, 5);
-    assert_eq!(context(raw, b"x", 0).number, 5);
-    assert_eq!(value(raw, 0, 0, &mut []).number, 5);
-    assert_eq!(write(raw, &mut []).number, 5);
+    assert_eq!(search(0, raw, b"x").number, 5);
+    assert_eq!(context(0, raw, b"x", 0).number, 5);
+    assert_eq!(value(0, raw, 0, 0, &mut []).number, 5);
+    assert_eq!(write(0, raw, &mut []).number, 5);
 }
 
 #[test]

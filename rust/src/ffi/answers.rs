@@ -6,13 +6,13 @@
 /// use capstanbar::ffi::{read, ReadAnswer};
 ///
 /// let refused = ReadAnswer { number: 2, place: 4, links: 0, params: 0 };
-/// assert_eq!(read(b"<a> <b>", &mut [0; 8], &mut []), refused);
+/// assert_eq!(read(0, b"<a> <b>", &mut [0; 8], &mut []), refused);
 /// ```
 #[repr(C)]
 #[derive(Clone, Copy, Debug, PartialEq, Eq)]
 pub struct ReadAnswer {
-    /// 0 done, 1 too long, 2 malformed, 3 no link room, 4 no parameter room; of a finish also 7, its
-    /// buffer is under [`LIMIT`](crate::LIMIT) octets.
+    /// 0 done, 1 too long, 2 malformed, 3 no link room, 4 no parameter room, 10 unknown edition; of a
+    /// finish also 7, its buffer is under [`LIMIT`](crate::LIMIT) octets.
     pub number: usize,
     /// Where a malformed header went wrong, else 0.
     pub place: usize,
@@ -28,11 +28,13 @@ pub struct ReadAnswer {
 /// ```
 /// use capstanbar::ffi::{start, FeedingState};
 ///
-/// assert_eq!(start(), FeedingState { phase: 0, total: 0, place: 0 });
+/// assert_eq!(start(1), FeedingState { edition: 1, phase: 0, total: 0, place: 0 });
 /// ```
 #[repr(C)]
 #[derive(Clone, Copy, Debug, PartialEq, Eq)]
 pub struct FeedingState {
+    /// The edition that the header is read in.
+    pub edition: usize,
     /// The phase of reading behind the octets gathered.
     pub phase: usize,
     /// How many octets were fed, and one past the limit where they are over it.
@@ -47,14 +49,15 @@ pub struct FeedingState {
 /// use capstanbar::ffi::{feed, start};
 ///
 /// let mut buffer = [0; 8192];
-/// let answer = feed(start(), b"<a> <", &mut buffer);
+/// let answer = feed(start(0), b"<a> <", &mut buffer);
 /// assert_eq!((answer.number, answer.place), (2, 4));
 /// assert_eq!(feed(answer.next, b"", &mut buffer), answer);
 /// ```
 #[repr(C)]
 #[derive(Clone, Copy, Debug, PartialEq, Eq)]
 pub struct FeedAnswer {
-    /// 0 done, 1 too long, 2 malformed, 7 the buffer is under [`LIMIT`](crate::LIMIT) octets.
+    /// 0 done, 1 too long, 2 malformed, 7 the buffer is under [`LIMIT`](crate::LIMIT) octets, 10
+    /// unknown edition.
     pub number: usize,
     /// Where malformed octets went wrong, else 0.
     pub place: usize,
@@ -84,12 +87,12 @@ pub struct CompareAnswer {
 /// use capstanbar::ffi::{search, RawTable, SearchAnswer};
 ///
 /// let none = RawTable { text: b"", links: &[], params: &[], link_count: 0, param_count: 0 };
-/// assert_eq!(search(none, b"next"), SearchAnswer { number: 9, link: 0 });
+/// assert_eq!(search(0, none, b"next"), SearchAnswer { number: 9, link: 0 });
 /// ```
 #[repr(C)]
 #[derive(Clone, Copy, Debug, PartialEq, Eq)]
 pub struct SearchAnswer {
-    /// 0 done, 1 too long, 5 bad table, 9 not found.
+    /// 0 done, 1 too long, 5 bad table, 9 not found, 10 unknown edition.
     pub number: usize,
     /// The link's number, 0 if refused.
     pub link: usize,
@@ -102,12 +105,12 @@ pub struct SearchAnswer {
 ///
 /// let none = RawTable { text: b"", links: &[], params: &[], link_count: 0, param_count: 0 };
 /// let refused = ContextAnswer { number: 8, source: 0, start: 0, end: 0 };
-/// assert_eq!(context(none, b"base", 0), refused);
+/// assert_eq!(context(0, none, b"base", 0), refused);
 /// ```
 #[repr(C)]
 #[derive(Clone, Copy, Debug, PartialEq, Eq)]
 pub struct ContextAnswer {
-    /// 0 done, 1 too long, 5 bad table, 8 no such link.
+    /// 0 done, 1 too long, 5 bad table, 8 no such link, 10 unknown edition.
     pub number: usize,
     /// What the context is a part of: 1 the text, 2 the base; 0 if refused.
     pub source: usize,
@@ -123,12 +126,13 @@ pub struct ContextAnswer {
 /// use capstanbar::ffi::{write, LengthAnswer, RawTable};
 ///
 /// let none = RawTable { text: b"", links: &[], params: &[], link_count: 0, param_count: 0 };
-/// assert_eq!(write(none, &mut []), LengthAnswer { number: 0, length: 0 });
+/// assert_eq!(write(0, none, &mut []), LengthAnswer { number: 0, length: 0 });
 /// ```
 #[repr(C)]
 #[derive(Clone, Copy, Debug, PartialEq, Eq)]
 pub struct LengthAnswer {
-    /// 0 done, 1 too long, 5 bad table, 6 no relation, 7 no output room, 8 no such link, 9 not found.
+    /// 0 done, 1 too long, 5 bad table, 6 no relation, 7 no output room, 8 no such link, 9 not found,
+    /// 10 unknown edition.
     pub number: usize,
     /// The octets put into the output, 0 if refused.
     pub length: usize,
@@ -141,7 +145,7 @@ pub struct LengthAnswer {
 ///
 /// let links = [usize::MAX, 0, 3, usize::MAX];
 /// let wild = RawTable { text: b"a", links: &links, params: &[], link_count: 1, param_count: 0 };
-/// assert_eq!(search(wild, b"next").number, 5);
+/// assert_eq!(search(0, wild, b"next").number, 5);
 /// ```
 #[derive(Clone, Copy, Debug)]
 pub struct RawTable<'a> {

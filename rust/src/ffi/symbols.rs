@@ -6,6 +6,7 @@ use super::{
 
 extern "C" {
     pub fn capstan_read(
+        edition: usize,
         header: *const u8,
         header_len: usize,
         links: *mut usize,
@@ -13,7 +14,7 @@ extern "C" {
         params: *mut usize,
         param_slots: usize,
     ) -> ReadAnswer;
-    pub fn capstan_start() -> FeedingState;
+    pub fn capstan_start(edition: usize) -> FeedingState;
     pub fn capstan_feed(
         state: FeedingState,
         part: *const u8,
@@ -34,6 +35,7 @@ extern "C" {
     pub fn capstan_compare(a: *const u8, a_len: usize, b: *const u8, b_len: usize)
         -> CompareAnswer;
     pub fn capstan_search(
+        edition: usize,
         text: *const u8,
         text_len: usize,
         links: *const usize,
@@ -46,6 +48,7 @@ extern "C" {
         relation_len: usize,
     ) -> SearchAnswer;
     pub fn capstan_context(
+        edition: usize,
         text: *const u8,
         text_len: usize,
         base: *const u8,
@@ -59,6 +62,7 @@ extern "C" {
         link: usize,
     ) -> ContextAnswer;
     pub fn capstan_value(
+        edition: usize,
         text: *const u8,
         text_len: usize,
         links: *const usize,
@@ -73,6 +77,7 @@ extern "C" {
         out_len: usize,
     ) -> LengthAnswer;
     pub fn capstan_write(
+        edition: usize,
         text: *const u8,
         text_len: usize,
         links: *const usize,
