@@ -1,5 +1,5 @@
 /*
- * Reads, searches and writes HTTP Link field values (RFC 8288).
+ * Reads, searches and writes HTTP Link field values (RFC 8288, and the older RFC 5988).
  *
  * Every function is proved to answer as the definitions in crates/outcomes/specs settle it, the code of a name as that in
  * crates/grammar/specs/Kept.antt does, and a comparison as those in crates/octets/specs/Fold.antt do, for every input; of a feeding's
@@ -19,19 +19,26 @@
  * Tables. A link record is CAPSTAN_LINK_SLOTS numbers: target start, target end, number of its first parameter, count of its
  * parameters. A parameter record is CAPSTAN_PARAM_SLOTS numbers: name start, name end, value start, value end, form. Places are
  * octets of the text, counted from 0, and an end is one past the last octet. Form 0 is no value, whose places both are the name's end,
- * 1 a token, and 2 a quoted string, whose span lies inside the quotes with its backslashes still there. The room is the count of slots
- * divided by 4 or by 5, rounded down. No header has more than 2,731 links, nor more than 4,095 parameters.
+ * 1 a token, 2 a quoted string, whose span lies inside the quotes with its backslashes still there, and 3 a bare value that is no token.
+ * The room is the count of slots divided by 4 or by 5, rounded down. No header has more than 2,731 links, nor more than 4,095
+ * parameters.
+ *
+ * Editions. In CAPSTAN_RFC8288 a bare value is a token; in CAPSTAN_RFC5988 it may also hold any of `( ) / : < = > ? @ [ ] { }`, and has
+ * form 3 if it does. Nothing else differs: what the first edition accepts, the second reads to the same records. Functions over headers
+ * and tables take the edition as their first argument, a feeding at its start; any other number is refused with CAPSTAN_UNKNOWN_EDITION,
+ * before all else.
  *
  * Numbers. Each answer but those of capstan_start, capstan_name_code and capstan_compare begins with one; the other numbers of a refusal
  * are 0, except the place with CAPSTAN_MALFORMED and the next state of a feed, and a refusal leaves every slot and octet lent as it was.
  * After success, slots and octets past those used hold what they held.
  *
- * The functions over a table take its text, its slots and its counts as capstan_read or capstan_finish was given and answered them.
+ * The functions over a table take its edition, text, slots and counts as capstan_read or capstan_finish was given and answered them.
  * They check all of it: tables of any other making are used if they are good, and refused with CAPSTAN_BAD_TABLE if they are not. A
  * table is good if the counts fit the rooms; the first link's parameters begin at number 0, each later link's where the former's end,
- * and the last ends at the count; every span lies in the text, start at most end; targets, names and values are what the RFC's grammar
- * derives for them and the form is 0, 1 or 2; and no link has two parameters of one of the names of codes 1 to 6, whose list stands
- * below. Spans may overlap or stand in any order.
+ * and the last ends at the count; every span lies in the text, start at most end; targets, names and values are what the edition's
+ * grammar derives for them in the form recorded, 0, 1 or 2, in CAPSTAN_RFC5988 also 3; and no link has two parameters of one of the
+ * names of codes 1 to 6, whose list stands below. Spans may overlap or stand in any order. A table that is good in CAPSTAN_RFC8288 is
+ * good in CAPSTAN_RFC5988 too, and is answered for alike; one with a form 3 is good in CAPSTAN_RFC5988 alone.
  */
 #ifndef CAPSTAN_H
 #define CAPSTAN_H
@@ -50,24 +57,32 @@ extern "C" {
 #define CAPSTAN_LINK_SLOTS 4
 #define CAPSTAN_PARAM_SLOTS 5
 
+/* The editions of the grammar. */
+enum {
+    CAPSTAN_RFC8288 = 0,
+    CAPSTAN_RFC5988 = 1 /* the older one, whose bare values are wider */
+};
+
 enum {
     CAPSTAN_DONE = 0,
-    CAPSTAN_TOO_LONG = 1,       /* a header, all feeds, a table's text or a written form: over CAPSTAN_LIMIT octets */
-    CAPSTAN_MALFORMED = 2,      /* the grammar doesn't derive the header; at a feed, none that begins so */
-    CAPSTAN_NO_LINK_ROOM = 3,   /* more links than room */
-    CAPSTAN_NO_PARAM_ROOM = 4,  /* more kept parameters than room */
-    CAPSTAN_BAD_TABLE = 5,      /* the table is not good */
-    CAPSTAN_NO_RELATION = 6,    /* a link to be written has no `rel`, or one with no relations */
-    CAPSTAN_NO_OUTPUT_ROOM = 7, /* the output buffer is shorter than the result, or a gathering one than the limit */
-    CAPSTAN_NO_SUCH_LINK = 8,   /* the link number is not below the count */
-    CAPSTAN_NOT_FOUND = 9       /* no such parameter, or no link has the relation */
+    CAPSTAN_TOO_LONG = 1,        /* a header, all feeds, a table's text or a written form: over CAPSTAN_LIMIT octets */
+    CAPSTAN_MALFORMED = 2,       /* the grammar doesn't derive the header; at a feed, none that begins so */
+    CAPSTAN_NO_LINK_ROOM = 3,    /* more links than room */
+    CAPSTAN_NO_PARAM_ROOM = 4,   /* more kept parameters than room */
+    CAPSTAN_BAD_TABLE = 5,       /* the table is not good */
+    CAPSTAN_NO_RELATION = 6,     /* a link to be written has no `rel`, or one with no relations */
+    CAPSTAN_NO_OUTPUT_ROOM = 7,  /* the output buffer is shorter than the result, or a gathering one than the limit */
+    CAPSTAN_NO_SUCH_LINK = 8,    /* the link number is not below the count */
+    CAPSTAN_NOT_FOUND = 9,       /* no such parameter, or no link has the relation */
+    CAPSTAN_UNKNOWN_EDITION = 10 /* the edition is neither CAPSTAN_RFC8288 nor CAPSTAN_RFC5988 */
 };
 
 /* The forms of a parameter's value. */
 enum {
     CAPSTAN_NO_VALUE = 0,
     CAPSTAN_TOKEN = 1,
-    CAPSTAN_QUOTED = 2
+    CAPSTAN_QUOTED = 2,
+    CAPSTAN_WIDER = 3 /* bare, but no token; in CAPSTAN_RFC5988 alone */
 };
 
 /*
@@ -100,7 +115,7 @@ typedef struct { size_t number, length; } capstan_length_answer;
 typedef struct { size_t same, pairs; } capstan_compare_answer; /* same is 1 or 0 */
 
 /* What a feeding remembers between calls. Its numbers are the library's: a caller hands it back as it got it. */
-typedef struct { size_t phase, total, place; } capstan_feeding;
+typedef struct { size_t edition, phase, total, place; } capstan_feeding;
 typedef struct { size_t number, place; capstan_feeding next; } capstan_feed_answer;
 
 /*
@@ -109,21 +124,23 @@ typedef struct { size_t number, place; capstan_feeding next; } capstan_feed_answ
  * Answers the counts of links and of kept parameters: of names of codes 1 to 6 the first of a link, of others each. A malformed header
  * is refused with its place: how many octets stand in its longest prefix that begins some well formed header. One that is cut short
  * has its own length as place.
- * Numbers, in the order in which they are tested: CAPSTAN_TOO_LONG, CAPSTAN_MALFORMED, CAPSTAN_NO_LINK_ROOM, CAPSTAN_NO_PARAM_ROOM.
+ * Numbers, in the order in which they are tested: CAPSTAN_UNKNOWN_EDITION, CAPSTAN_TOO_LONG, CAPSTAN_MALFORMED, CAPSTAN_NO_LINK_ROOM,
+ * CAPSTAN_NO_PARAM_ROOM.
  */
-capstan_read_answer capstan_read(const uint8_t *header, size_t header_len, size_t *links, size_t link_slots, size_t *params,
-                                 size_t param_slots);
+capstan_read_answer capstan_read(size_t edition, const uint8_t *header, size_t header_len, size_t *links, size_t link_slots,
+                                 size_t *params, size_t param_slots);
 
 /*
  * A header that arrives in parts: a start, a feed for each part, and the finish. A lent buffer of at least CAPSTAN_LIMIT octets gathers
  * what was fed. State and buffer go from call to call as they were handed out: each feed is given the state that the call before
  * answered, and the same buffer, which nobody else writes to meanwhile. Parts may have any length, also 0. No feed looks again at
- * octets that were fed before it.
+ * octets that were fed before it. The header is read in the edition that the start is given; if there is none of that number, the calls
+ * on its state are refused.
  *
- * With any other state or buffer a call still touches nothing but what it is lent, a buffer under CAPSTAN_LIMIT is refused first of
- * all, a refusal changes nothing lent, and the answer is one of the numbers below.
+ * With any other state or buffer a call still touches nothing but what it is lent, an unknown edition and then a buffer under
+ * CAPSTAN_LIMIT are refused first of all, a refusal changes nothing lent, and the answer is one of the numbers below.
  */
-capstan_feeding capstan_start(void);
+capstan_feeding capstan_start(size_t edition);
 
 /*
  * Takes one part more. `next` is the state for the call behind this one, also after a refusal. What counts are the octets of all feeds
@@ -131,17 +148,19 @@ capstan_feeding capstan_start(void);
  *
  * CAPSTAN_DONE: some well formed header begins with them, and they stand at the buffer's start; the octets behind them are as they
  * were. CAPSTAN_TOO_LONG: they are over CAPSTAN_LIMIT; later feeds, also empty ones, and the finish answer so too. CAPSTAN_MALFORMED:
- * no well formed header begins with them; the place is the one that capstan_read would answer, and stays. CAPSTAN_NO_OUTPUT_ROOM: the
- * buffer is under CAPSTAN_LIMIT octets; the part doesn't count, and `next` is `state`. A refusal leaves the buffer as it was.
- * Numbers, in order: CAPSTAN_NO_OUTPUT_ROOM, CAPSTAN_TOO_LONG, CAPSTAN_MALFORMED.
+ * no well formed header begins with them; the place is the one that capstan_read would answer, and stays. CAPSTAN_UNKNOWN_EDITION: the
+ * feeding was started with no known one. CAPSTAN_NO_OUTPUT_ROOM: the buffer is under CAPSTAN_LIMIT octets. With these two the part
+ * doesn't count, and `next` is `state`. A refusal leaves the buffer as it was.
+ * Numbers, in order: CAPSTAN_UNKNOWN_EDITION, CAPSTAN_NO_OUTPUT_ROOM, CAPSTAN_TOO_LONG, CAPSTAN_MALFORMED.
  */
 capstan_feed_answer capstan_feed(capstan_feeding state, const uint8_t *part, size_t part_len, uint8_t *buffer, size_t buffer_len);
 
 /*
  * Reads the octets of all feeds that count into the tables, and answers as capstan_read does of them, wherever the cuts fell. The text
- * of such a table is the buffer's first octets, as many as were fed. State and buffer stay usable: asked again it answers the same, and
- * feeds may go on.
- * Numbers, in order: CAPSTAN_NO_OUTPUT_ROOM (the buffer is under CAPSTAN_LIMIT octets), and then those of capstan_read.
+ * of such a table is the buffer's first octets, as many as were fed, and its edition the feeding's. State and buffer stay usable: asked
+ * again it answers the same, and feeds may go on.
+ * Numbers, in order: CAPSTAN_UNKNOWN_EDITION, CAPSTAN_NO_OUTPUT_ROOM (the buffer is under CAPSTAN_LIMIT octets), and then the others of
+ * capstan_read.
  */
 capstan_read_answer capstan_finish(capstan_feeding state, const uint8_t *buffer, size_t buffer_len, size_t *links, size_t link_slots,
                                    size_t *params, size_t param_slots);
@@ -164,9 +183,9 @@ capstan_compare_answer capstan_compare(const uint8_t *a, size_t a_len, const uin
  * Answers the lowest number of a link that has the relation. A link's relations are what stands between the spaces of its `rel` value;
  * they compare with A to Z taken for a to z, and with the backslashes of a quoted `rel` taken out. An empty query, or one with a space,
  * matches nothing.
- * Numbers, in order: CAPSTAN_TOO_LONG, CAPSTAN_BAD_TABLE, CAPSTAN_NOT_FOUND.
+ * Numbers, in order: CAPSTAN_UNKNOWN_EDITION, CAPSTAN_TOO_LONG, CAPSTAN_BAD_TABLE, CAPSTAN_NOT_FOUND.
  */
-capstan_search_answer capstan_search(const uint8_t *text, size_t text_len, const size_t *links, size_t link_slots,
+capstan_search_answer capstan_search(size_t edition, const uint8_t *text, size_t text_len, const size_t *links, size_t link_slots,
                                      const size_t *params, size_t param_slots, size_t link_count, size_t param_count,
                                      const uint8_t *relation, size_t relation_len);
 
@@ -174,9 +193,9 @@ capstan_search_answer capstan_search(const uint8_t *text, size_t text_len, const
  * Answers where the context of link number `link` lies: its `anchor` value as written, with source CAPSTAN_TEXT, also where that is
  * empty; else the whole base, with source CAPSTAN_BASE. Start and end are octet places there, start at most end. The octets of the
  * base are not read.
- * Numbers, in order: CAPSTAN_TOO_LONG, CAPSTAN_BAD_TABLE, CAPSTAN_NO_SUCH_LINK.
+ * Numbers, in order: CAPSTAN_UNKNOWN_EDITION, CAPSTAN_TOO_LONG, CAPSTAN_BAD_TABLE, CAPSTAN_NO_SUCH_LINK.
  */
-capstan_context_answer capstan_context(const uint8_t *text, size_t text_len, const uint8_t *base, size_t base_len,
+capstan_context_answer capstan_context(size_t edition, const uint8_t *text, size_t text_len, const uint8_t *base, size_t base_len,
                                        const size_t *links, size_t link_slots, const size_t *params, size_t param_slots,
                                        size_t link_count, size_t param_count, size_t link);
 
@@ -184,21 +203,22 @@ capstan_context_answer capstan_context(const uint8_t *text, size_t text_len, con
  * Writes the meaning of a parameter's value to `out`, and answers its length: the value with the backslashes of a quoted string taken
  * out. The parameter is the one at `place` within link number `link`, counted from 0. A parameter without a value has length 0. Room for
  * the value's span is always enough.
- * Numbers, in order: CAPSTAN_TOO_LONG, CAPSTAN_BAD_TABLE, CAPSTAN_NO_SUCH_LINK, CAPSTAN_NOT_FOUND, CAPSTAN_NO_OUTPUT_ROOM.
+ * Numbers, in order: CAPSTAN_UNKNOWN_EDITION, CAPSTAN_TOO_LONG, CAPSTAN_BAD_TABLE, CAPSTAN_NO_SUCH_LINK, CAPSTAN_NOT_FOUND,
+ * CAPSTAN_NO_OUTPUT_ROOM.
  */
-capstan_length_answer capstan_value(const uint8_t *text, size_t text_len, const size_t *links, size_t link_slots,
+capstan_length_answer capstan_value(size_t edition, const uint8_t *text, size_t text_len, const size_t *links, size_t link_slots,
                                     const size_t *params, size_t param_slots, size_t link_count, size_t param_count, size_t link,
                                     size_t place, uint8_t *out, size_t out_len);
 
 /*
  * Writes a table to `out` as a header in one fixed form, and answers its length. Links are parted by a comma and a space; each is its
  * target in `<` and `>`, and for each parameter `;`, a space, the name in small letters, `=`, and the value, which stands bare if it is
- * a token, and else in quotes with a backslash before each quote and backslash. No links are no octets. Reading the octets written gives
- * the same links with the same meanings. CAPSTAN_LIMIT octets of room are always enough.
- * Numbers, in order: CAPSTAN_TOO_LONG (the text), CAPSTAN_BAD_TABLE, CAPSTAN_NO_RELATION, CAPSTAN_TOO_LONG (the written form),
- * CAPSTAN_NO_OUTPUT_ROOM.
+ * a token, and else in quotes with a backslash before each quote and backslash. No links are no octets. Reading the octets written, in
+ * either edition, gives the same links with the same meanings. CAPSTAN_LIMIT octets of room are always enough.
+ * Numbers, in order: CAPSTAN_UNKNOWN_EDITION, CAPSTAN_TOO_LONG (the text), CAPSTAN_BAD_TABLE, CAPSTAN_NO_RELATION, CAPSTAN_TOO_LONG (the
+ * written form), CAPSTAN_NO_OUTPUT_ROOM.
  */
-capstan_length_answer capstan_write(const uint8_t *text, size_t text_len, const size_t *links, size_t link_slots,
+capstan_length_answer capstan_write(size_t edition, const uint8_t *text, size_t text_len, const size_t *links, size_t link_slots,
                                     const size_t *params, size_t param_slots, size_t link_count, size_t param_count, uint8_t *out,
                                     size_t out_len);
 

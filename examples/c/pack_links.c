@@ -30,8 +30,8 @@ static void print_languages(size_t number)
         const size_t *param = params + CAPSTAN_PARAM_SLOTS * (link[2] + place);
         if (capstan_name_code(text + param[0], param[1] - param[0]) != CAPSTAN_HREFLANG)
             continue;
-        capstan_length_answer meant = capstan_value(text, text_len, links, LINK_SLOTS, params, PARAM_SLOTS, table.links,
-                                                    table.params, number, place, language, sizeof language);
+        capstan_length_answer meant = capstan_value(CAPSTAN_RFC8288, text, text_len, links, LINK_SLOTS, params, PARAM_SLOTS,
+                                                    table.links, table.params, number, place, language, sizeof language);
         printf(", in ");
         fwrite(language, 1, meant.length, stdout);
     }
@@ -40,8 +40,8 @@ static void print_languages(size_t number)
 /* Prints the target of the first link that has the relation, its languages, and what it is a link of if not of the pack itself. */
 static void print_link(const char *relation)
 {
-    capstan_search_answer found = capstan_search(text, text_len, links, LINK_SLOTS, params, PARAM_SLOTS, table.links, table.params,
-                                                 (const uint8_t *)relation, strlen(relation));
+    capstan_search_answer found = capstan_search(CAPSTAN_RFC8288, text, text_len, links, LINK_SLOTS, params, PARAM_SLOTS, table.links,
+                                                 table.params, (const uint8_t *)relation, strlen(relation));
     if (found.number != CAPSTAN_DONE) {
         printf("%s: none\n", relation);
         return;
@@ -52,8 +52,8 @@ static void print_link(const char *relation)
     print_languages(found.link);
 
     const uint8_t *base = text; /* the pack's own address would stand here; this program has none, and passes no octets of it */
-    capstan_context_answer context = capstan_context(text, text_len, base, 0, links, LINK_SLOTS, params, PARAM_SLOTS, table.links,
-                                                     table.params, found.link);
+    capstan_context_answer context = capstan_context(CAPSTAN_RFC8288, text, text_len, base, 0, links, LINK_SLOTS, params, PARAM_SLOTS,
+                                                     table.links, table.params, found.link);
     if (context.source == CAPSTAN_TEXT) {
         printf(", a link of <");
         print_part(context.start, context.end);
@@ -71,7 +71,7 @@ int main(int argc, char **argv)
     const char *header = argc > 1 ? argv[1] : sample;
     text = (const uint8_t *)header;
     text_len = strlen(header);
-    table = capstan_read(text, text_len, links, LINK_SLOTS, params, PARAM_SLOTS);
+    table = capstan_read(CAPSTAN_RFC8288, text, text_len, links, LINK_SLOTS, params, PARAM_SLOTS);
     if (table.number != CAPSTAN_DONE) {
         fprintf(stderr, "pack_links: the header is refused with number %zu at place %zu\n", table.number, table.place);
         return 1;

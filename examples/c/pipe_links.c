@@ -39,8 +39,8 @@ static void print_links(size_t text_len, capstan_read_answer table)
         print("", buffer + link[0], link[1] - link[0], "\n");
         for (size_t place = 0; place < link[3]; place++) {
             const size_t *param = params + CAPSTAN_PARAM_SLOTS * (link[2] + place);
-            capstan_length_answer meant = capstan_value(buffer, text_len, links, LINK_SLOTS, params, PARAM_SLOTS, table.links,
-                                                        table.params, number, place, value, sizeof value);
+            capstan_length_answer meant = capstan_value(CAPSTAN_RFC8288, buffer, text_len, links, LINK_SLOTS, params, PARAM_SLOTS,
+                                                        table.links, table.params, number, place, value, sizeof value);
             print("  ", buffer + param[0], param[1] - param[0], "=");
             print("", value, meant.length, "\n");
         }
@@ -50,7 +50,7 @@ static void print_links(size_t text_len, capstan_read_answer table)
 int main(void)
 {
     uint8_t part[PART];
-    capstan_feeding state = capstan_start();
+    capstan_feeding state = capstan_start(CAPSTAN_RFC8288);
     size_t total = 0;
     ssize_t got;
 

@@ -8,7 +8,7 @@
 
 static_assert(sizeof(capstan_read_answer) == 4 * sizeof(std::size_t), "four numbers");
 static_assert(sizeof(capstan_context_answer) == 4 * sizeof(std::size_t), "four numbers");
-static_assert(sizeof(capstan_feed_answer) == 5 * sizeof(std::size_t), "two numbers and a state of three");
+static_assert(sizeof(capstan_feed_answer) == 6 * sizeof(std::size_t), "two numbers and a state of four");
 
 static const std::uint8_t *octets(const std::string &s)
 {
@@ -23,7 +23,7 @@ static bool parts_hold(const std::string &header, const capstan_read_answer &who
     std::vector<std::uint8_t> buffer(CAPSTAN_LIMIT);
     std::vector<std::size_t> own_links(links.size()), own_params(params.size());
 
-    const auto first = capstan_feed(capstan_start(), octets(header), cut, buffer.data(), buffer.size());
+    const auto first = capstan_feed(capstan_start(CAPSTAN_RFC8288), octets(header), cut, buffer.data(), buffer.size());
     const auto second = capstan_feed(first.next, octets(header) + cut, header.size() - cut, buffer.data(), buffer.size());
     const auto f = capstan_finish(second.next, buffer.data(), buffer.size(), own_links.data(), own_links.size(), own_params.data(),
                                   own_params.size());
@@ -41,19 +41,20 @@ int main()
     std::vector<std::size_t> links(CAPSTAN_LINK_SLOTS), params(CAPSTAN_PARAM_SLOTS);
     std::vector<std::uint8_t> out(64);
 
-    const auto r = capstan_read(octets(header), header.size(), links.data(), links.size(), params.data(), params.size());
+    const auto r = capstan_read(CAPSTAN_RFC8288, octets(header), header.size(), links.data(), links.size(), params.data(),
+                                params.size());
     const auto code = capstan_name_code(octets(header) + params[0], params[1] - params[0]);
     const auto alike = capstan_compare(octets(header) + params[0], params[1] - params[0], octets(name), name.size());
-    const auto s = capstan_search(octets(header), header.size(), links.data(), links.size(), params.data(), params.size(), r.links,
-                                  r.params, octets(relation), relation.size());
-    const auto c = capstan_context(octets(header), header.size(), octets(base), base.size(), links.data(), links.size(),
-                                   params.data(), params.size(), r.links, r.params, s.link);
-    const auto v = capstan_value(octets(header), header.size(), links.data(), links.size(), params.data(), params.size(), r.links,
-                                 r.params, s.link, 0, out.data(), out.size());
+    const auto s = capstan_search(CAPSTAN_RFC8288, octets(header), header.size(), links.data(), links.size(), params.data(),
+                                  params.size(), r.links, r.params, octets(relation), relation.size());
+    const auto c = capstan_context(CAPSTAN_RFC8288, octets(header), header.size(), octets(base), base.size(), links.data(),
+                                   links.size(), params.data(), params.size(), r.links, r.params, s.link);
+    const auto v = capstan_value(CAPSTAN_RFC8288, octets(header), header.size(), links.data(), links.size(), params.data(),
+                                 params.size(), r.links, r.params, s.link, 0, out.data(), out.size());
     const std::string form = "</packs/8>; rel=next";
     std::vector<std::uint8_t> written(form.size());
-    const auto w = capstan_write(octets(header), header.size(), links.data(), links.size(), params.data(), params.size(), r.links,
-                                 r.params, written.data(), written.size());
+    const auto w = capstan_write(CAPSTAN_RFC8288, octets(header), header.size(), links.data(), links.size(), params.data(),
+                                 params.size(), r.links, r.params, written.data(), written.size());
     const bool holds = r.number == CAPSTAN_DONE && r.links == 1 && r.params == 1 && s.number == CAPSTAN_DONE && s.link == 0
         && c.number == CAPSTAN_DONE && c.source == CAPSTAN_BASE && c.start == 0 && c.end == base.size() && v.number == CAPSTAN_DONE
         && v.length == relation.size() && std::memcmp(out.data(), relation.data(), v.length) == 0 && w.number == CAPSTAN_DONE

@@ -90,7 +90,8 @@ static void test_kept(const char *name, const uint8_t *capitals, size_t len, siz
     memcpy(header + 4, name, len);
     header[4 + len] = ';';
     memcpy(header + 5 + len, capitals, len);
-    capstan_read_answer r = capstan_read(header, 5 + 2 * len, links, CAPSTAN_LINK_SLOTS, params, 2 * CAPSTAN_PARAM_SLOTS);
+    capstan_read_answer r = capstan_read(CAPSTAN_RFC8288, header, 5 + 2 * len, links, CAPSTAN_LINK_SLOTS, params,
+                                         2 * CAPSTAN_PARAM_SLOTS);
     expect(r.number == CAPSTAN_DONE && r.params == kept && params[0] == 4, capitals, len, "kept otherwise");
 }
 

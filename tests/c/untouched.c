@@ -1,4 +1,7 @@
-/* Each entry's refusals, with their numbers; what is lent is left as it was by a refusal, and past what is used by a success. */
+/*
+ * Each entry's refusals, with their numbers; what is lent is left as it was by a refusal, and past what is used by a success. In both
+ * editions: nothing read here tells them apart. At last in unknown ones, which are refused before all else.
+ */
 #include "capstan.h"
 
 #include <stdio.h>
@@ -10,6 +13,7 @@ static uint8_t long_text[CAPSTAN_LIMIT + 1];
 static size_t links[LINK_SLOTS], links_before[LINK_SLOTS];
 static size_t params[PARAM_SLOTS], params_before[PARAM_SLOTS];
 static uint8_t out[OCTETS], out_before[OCTETS];
+static size_t edition;
 static int failures;
 
 static const uint8_t *octets(const char *s)
@@ -53,7 +57,7 @@ static void read_refused(const uint8_t *header, size_t len, size_t link_slots, s
 {
     fill();
     keep();
-    capstan_read_answer r = capstan_read(header, len, links, link_slots, params, param_slots);
+    capstan_read_answer r = capstan_read(edition, header, len, links, link_slots, params, param_slots);
     expect(r.number == number && r.place == place && r.links == 0 && r.params == 0, what);
     expect_kept(0, 0, 0, what);
 }
@@ -73,10 +77,10 @@ static void test_read(void)
 
     fill();
     keep();
-    capstan_read_answer r = capstan_read(long_text, CAPSTAN_LIMIT, links, 0, params, 0);
+    capstan_read_answer r = capstan_read(edition, long_text, CAPSTAN_LIMIT, links, 0, params, 0);
     expect(r.number == CAPSTAN_DONE && r.place == 0 && r.links == 0 && r.params == 0, "read: 8,192 commas");
     expect_kept(0, 0, 0, "read: 8,192 commas");
-    r = capstan_read(octets(two), len, links, 2 * CAPSTAN_LINK_SLOTS, params, 3 * CAPSTAN_PARAM_SLOTS);
+    r = capstan_read(edition, octets(two), len, links, 2 * CAPSTAN_LINK_SLOTS, params, 3 * CAPSTAN_PARAM_SLOTS);
     expect(r.number == CAPSTAN_DONE && r.place == 0 && r.links == 2 && r.params == 3, "read: just room enough");
     expect_kept(2 * CAPSTAN_LINK_SLOTS, 3 * CAPSTAN_PARAM_SLOTS, 0, "read: just room enough");
 }
@@ -88,7 +92,7 @@ enum { HEADER_LEN = sizeof header - 1 };
 static void read_header(void)
 {
     fill();
-    capstan_read_answer r = capstan_read(octets(header), HEADER_LEN, links, LINK_SLOTS, params, PARAM_SLOTS);
+    capstan_read_answer r = capstan_read(edition, octets(header), HEADER_LEN, links, LINK_SLOTS, params, PARAM_SLOTS);
     expect(r.number == CAPSTAN_DONE && r.links == 2 && r.params == 3, "the header is read");
     keep();
 }
@@ -96,8 +100,8 @@ static void read_header(void)
 static void search(const uint8_t *text, size_t len, size_t param_count, const char *relation, size_t number, size_t link,
                    const char *what)
 {
-    capstan_search_answer s = capstan_search(text, len, links, LINK_SLOTS, params, PARAM_SLOTS, 2, param_count, octets(relation),
-                                             strlen(relation));
+    capstan_search_answer s = capstan_search(edition, text, len, links, LINK_SLOTS, params, PARAM_SLOTS, 2, param_count,
+                                             octets(relation), strlen(relation));
     expect(s.number == number && s.link == link, what);
     expect_kept(0, 0, 0, what);
 }
@@ -117,8 +121,8 @@ static void test_search(void)
 static void context(const uint8_t *text, size_t len, size_t param_count, size_t link, size_t number, size_t source, size_t start,
                     size_t end, const char *what)
 {
-    capstan_context_answer c = capstan_context(text, len, octets("/packs/7"), 8, links, LINK_SLOTS, params, PARAM_SLOTS, 2,
-                                               param_count, link);
+    capstan_context_answer c = capstan_context(edition, text, len, octets("/packs/7"), 8, links, LINK_SLOTS, params,
+                                               PARAM_SLOTS, 2, param_count, link);
     expect(c.number == number && c.source == source && c.start == start && c.end == end, what);
     expect_kept(0, 0, 0, what);
 }
@@ -137,8 +141,8 @@ static void test_context(void)
 static void value_refused(const uint8_t *text, size_t len, size_t param_count, size_t link, size_t place, size_t out_len,
                           size_t number, const char *what)
 {
-    capstan_length_answer v = capstan_value(text, len, links, LINK_SLOTS, params, PARAM_SLOTS, 2, param_count, link, place, out,
-                                            out_len);
+    capstan_length_answer v = capstan_value(edition, text, len, links, LINK_SLOTS, params, PARAM_SLOTS, 2, param_count, link, place,
+                                            out, out_len);
     expect(v.number == number && v.length == 0, what);
     expect_kept(0, 0, 0, what);
 }
@@ -153,7 +157,8 @@ static void test_value(void)
     value_refused(octets(header), HEADER_LEN, 3, 1, SIZE_MAX, OCTETS, CAPSTAN_NOT_FOUND, "value: the last place");
     value_refused(octets(header), HEADER_LEN, 3, 0, 0, 3, CAPSTAN_NO_OUTPUT_ROOM, "value: room for three octets");
 
-    capstan_length_answer v = capstan_value(octets(header), HEADER_LEN, links, LINK_SLOTS, params, PARAM_SLOTS, 2, 3, 0, 0, out, 4);
+    capstan_length_answer v = capstan_value(edition, octets(header), HEADER_LEN, links, LINK_SLOTS, params, PARAM_SLOTS, 2, 3, 0, 0,
+                                            out, 4);
     expect(v.number == CAPSTAN_DONE && v.length == 4 && memcmp(out, "next", 4) == 0, "value: just room enough");
     expect_kept(0, 0, 4, "value: just room enough");
 }
@@ -161,7 +166,8 @@ static void test_value(void)
 static void write_refused(const uint8_t *text, size_t len, size_t link_count, size_t param_count, size_t out_len, size_t number,
                           const char *what)
 {
-    capstan_length_answer w = capstan_write(text, len, links, LINK_SLOTS, params, PARAM_SLOTS, link_count, param_count, out, out_len);
+    capstan_length_answer w = capstan_write(edition, text, len, links, LINK_SLOTS, params, PARAM_SLOTS, link_count, param_count, out,
+                                            out_len);
     expect(w.number == number && w.length == 0, what);
     expect_kept(0, 0, 0, what);
 }
@@ -176,7 +182,7 @@ static void test_long_form(void)
     text[0] = '<';
     memcpy(text + 1 + TARGET, ">;rel=x", 7);
     fill();
-    capstan_read_answer r = capstan_read(text, TARGET + 8, links, LINK_SLOTS, params, PARAM_SLOTS);
+    capstan_read_answer r = capstan_read(edition, text, TARGET + 8, links, LINK_SLOTS, params, PARAM_SLOTS);
     expect(r.number == CAPSTAN_DONE && r.links == 1 && r.params == 1, "the long target is read");
     memcpy(links + CAPSTAN_LINK_SLOTS, links, CAPSTAN_LINK_SLOTS * sizeof *links);
     memcpy(params + CAPSTAN_PARAM_SLOTS, params, CAPSTAN_PARAM_SLOTS * sizeof *params);
@@ -199,20 +205,21 @@ static void test_write(void)
     write_refused(octets(header), HEADER_LEN, SIZE_MAX, SIZE_MAX, OCTETS, CAPSTAN_BAD_TABLE, "write: the largest counts");
 
     fill();
-    capstan_read_answer r = capstan_read(octets(bare), sizeof bare - 1, links, LINK_SLOTS, params, PARAM_SLOTS);
+    capstan_read_answer r = capstan_read(edition, octets(bare), sizeof bare - 1, links, LINK_SLOTS, params, PARAM_SLOTS);
     expect(r.number == CAPSTAN_DONE, "spaces for a relation are read");
     keep();
     write_refused(octets(bare), sizeof bare - 1, 1, 1, OCTETS, CAPSTAN_NO_RELATION, "write: spaces for a relation");
 
     fill();
-    r = capstan_read(octets(quoted), quoted_len, links, LINK_SLOTS, params, PARAM_SLOTS);
+    r = capstan_read(edition, octets(quoted), quoted_len, links, LINK_SLOTS, params, PARAM_SLOTS);
     expect(r.number == CAPSTAN_DONE && r.links == 1 && r.params == 2, "the quoted values are read");
     keep();
     write_refused(octets(quoted), quoted_len, 1, 2, form_len - 1, CAPSTAN_NO_OUTPUT_ROOM, "write: an octet too few");
-    capstan_length_answer w = capstan_write(octets(quoted), quoted_len, links, LINK_SLOTS, params, PARAM_SLOTS, 1, 2, out, form_len);
+    capstan_length_answer w = capstan_write(edition, octets(quoted), quoted_len, links, LINK_SLOTS, params, PARAM_SLOTS, 1, 2, out,
+                                            form_len);
     expect(w.number == CAPSTAN_DONE && w.length == form_len && memcmp(out, form, form_len) == 0, "write: just room enough");
     expect_kept(0, 0, form_len, "write: just room enough");
-    w = capstan_write(octets(""), 0, links, 0, params, 0, 0, 0, out, 0);
+    w = capstan_write(edition, octets(""), 0, links, 0, params, 0, 0, 0, out, 0);
     expect(w.number == CAPSTAN_DONE && w.length == 0, "write: no links");
     test_long_form();
 }
@@ -227,11 +234,11 @@ static size_t stored;
 static void start(void)
 {
     for (size_t i = 0; i < GUARDED; i++) guarded[i] = (uint8_t)(i % 251);
-    state = capstan_start();
+    state = capstan_start(edition);
     stored = 0;
 }
 
-/* A part that is taken stands behind those before it; nothing else changes. Without room the state stays, too. */
+/* A part that is taken stands behind those before it; nothing else changes. Without room or edition the state stays, too. */
 static void feed(const uint8_t *part, size_t len, size_t buffer_len, size_t number, size_t place, const char *what)
 {
     memcpy(guarded_before, guarded, GUARDED);
@@ -242,7 +249,7 @@ static void feed(const uint8_t *part, size_t len, size_t buffer_len, size_t numb
         stored += len;
     }
     expect(memcmp(guarded, guarded_before, GUARDED) == 0, what);
-    if (number == CAPSTAN_NO_OUTPUT_ROOM)
+    if (number == CAPSTAN_NO_OUTPUT_ROOM || number == CAPSTAN_UNKNOWN_EDITION)
         expect(memcmp(&f.next, &state, sizeof state) == 0, what);
     state = f.next;
 }
@@ -254,7 +261,7 @@ static void finish(size_t buffer_len, size_t link_slots, size_t param_slots, siz
 
     fill();
     if (number == CAPSTAN_DONE)
-        whole = capstan_read(buffer, stored, links, link_slots, params, param_slots);
+        whole = capstan_read(edition, buffer, stored, links, link_slots, params, param_slots);
     keep();
     memcpy(guarded_before, guarded, GUARDED);
     for (int again = 0; again < 2; again++) {
@@ -313,14 +320,25 @@ static void test_too_long(void)
     feed(long_text, CAPSTAN_LIMIT + 1, CAPSTAN_LIMIT + GUARD, CAPSTAN_TOO_LONG, 0, "feed: 8,193 commas at once");
 }
 
+/* The edition comes first and the room next; then the number is any of the entry's, which go as far as the last. */
+static void expect_wild(size_t number, size_t last, size_t buffer_len, const char *what)
+{
+    if (edition > CAPSTAN_RFC5988)
+        expect(number == CAPSTAN_UNKNOWN_EDITION, what);
+    else if (buffer_len < CAPSTAN_LIMIT)
+        expect(number == CAPSTAN_NO_OUTPUT_ROOM, what);
+    else
+        expect(number <= last, what);
+}
+
 /* With a state of any numbers the answer is a number of the entry, a refusal changes nothing, and what isn't lent stays as it was. */
 static void wild_feed(size_t buffer_len)
 {
     memcpy(guarded_before, guarded, GUARDED);
     capstan_feed_answer f = capstan_feed(state, octets(",<c>;z"), 6, buffer, buffer_len);
-    expect(f.number <= CAPSTAN_MALFORMED || f.number == CAPSTAN_NO_OUTPUT_ROOM, "feed: a wild state");
-    if (f.number == CAPSTAN_NO_OUTPUT_ROOM)
-        expect(memcmp(&f.next, &state, sizeof state) == 0, "feed: a wild state, and no room");
+    expect_wild(f.number, CAPSTAN_MALFORMED, buffer_len, "feed: a wild state");
+    if (f.number == CAPSTAN_NO_OUTPUT_ROOM || f.number == CAPSTAN_UNKNOWN_EDITION)
+        expect(memcmp(&f.next, &state, sizeof state) == 0, "feed: a wild state, and no room or edition");
     if (f.number == CAPSTAN_DONE)
         memcpy(guarded_before + GUARD, buffer, buffer_len);
     expect(memcmp(guarded, guarded_before, GUARDED) == 0, "feed: a wild state");
@@ -335,7 +353,7 @@ static void wild_finish(size_t buffer_len)
     memcpy(guarded_before, guarded, GUARDED);
     capstan_read_answer r = capstan_finish(state, buffer, buffer_len, links, LENT_LINKS, params, LENT_PARAMS);
     int done = r.number == CAPSTAN_DONE;
-    expect(r.number <= CAPSTAN_NO_PARAM_ROOM || r.number == CAPSTAN_NO_OUTPUT_ROOM, "finish: a wild state");
+    expect_wild(r.number, CAPSTAN_NO_PARAM_ROOM, buffer_len, "finish: a wild state");
     expect_kept(done ? LENT_LINKS : 0, done ? LENT_PARAMS : 0, 0, "finish: a wild state");
     expect(memcmp(guarded, guarded_before, GUARDED) == 0, "finish: a wild state");
 }
@@ -359,7 +377,7 @@ static void test_wild_states(void)
     }
 }
 
-int main(void)
+static void test_edition(void)
 {
     test_read();
     test_search();
@@ -370,5 +388,59 @@ int main(void)
     test_malformed();
     test_too_long();
     test_wild_states();
+}
+
+/* Whatever else would be done or refused; the table is one of a known edition. */
+static void test_unknown_edition(size_t unknown)
+{
+    const uint8_t *text = octets(header);
+
+    edition = CAPSTAN_RFC8288;
+    read_header();
+    edition = unknown;
+    search(text, HEADER_LEN, 3, "prev", CAPSTAN_UNKNOWN_EDITION, 0, "search: an unknown edition");
+    search(text, HEADER_LEN, 3, "", CAPSTAN_UNKNOWN_EDITION, 0, "search: an unknown edition, and an empty relation");
+    search(text, HEADER_LEN, 2, "prev", CAPSTAN_UNKNOWN_EDITION, 0, "search: an unknown edition, and a bad table");
+    search(long_text, sizeof long_text, 3, "prev", CAPSTAN_UNKNOWN_EDITION, 0, "search: an unknown edition, and 8,193 octets");
+    context(text, HEADER_LEN, 3, 0, CAPSTAN_UNKNOWN_EDITION, 0, 0, 0, "context: an unknown edition");
+    context(text, HEADER_LEN, 3, 2, CAPSTAN_UNKNOWN_EDITION, 0, 0, 0, "context: an unknown edition, and no such link");
+    context(text, HEADER_LEN, 2, 0, CAPSTAN_UNKNOWN_EDITION, 0, 0, 0, "context: an unknown edition, and a bad table");
+    context(long_text, sizeof long_text, 3, 0, CAPSTAN_UNKNOWN_EDITION, 0, 0, 0, "context: an unknown edition, and 8,193 octets");
+    value_refused(text, HEADER_LEN, 3, 0, 0, OCTETS, CAPSTAN_UNKNOWN_EDITION, "value: an unknown edition");
+    value_refused(text, HEADER_LEN, 3, 0, 0, 3, CAPSTAN_UNKNOWN_EDITION, "value: an unknown edition, and room for three octets");
+    value_refused(text, HEADER_LEN, 3, 0, 2, OCTETS, CAPSTAN_UNKNOWN_EDITION, "value: an unknown edition, and no such parameter");
+    value_refused(text, HEADER_LEN, 3, 2, 0, OCTETS, CAPSTAN_UNKNOWN_EDITION, "value: an unknown edition, and no such link");
+    value_refused(text, HEADER_LEN, 2, 0, 0, OCTETS, CAPSTAN_UNKNOWN_EDITION, "value: an unknown edition, and a bad table");
+    value_refused(long_text, sizeof long_text, 3, 0, 0, 0, CAPSTAN_UNKNOWN_EDITION, "value: an unknown edition, and 8,193 octets");
+    write_refused(text, HEADER_LEN, 2, 3, OCTETS, CAPSTAN_UNKNOWN_EDITION, "write: an unknown edition");
+    write_refused(text, HEADER_LEN, 2, 3, 0, CAPSTAN_UNKNOWN_EDITION, "write: an unknown edition, and no room");
+    write_refused(text, HEADER_LEN, 2, 2, OCTETS, CAPSTAN_UNKNOWN_EDITION, "write: an unknown edition, and a bad table");
+    write_refused(long_text, sizeof long_text, 2, 3, 0, CAPSTAN_UNKNOWN_EDITION, "write: an unknown edition, and 8,193 octets");
+    write_refused(octets(""), 0, 0, 0, 0, CAPSTAN_UNKNOWN_EDITION, "write: an unknown edition, and no links");
+
+    read_refused(text, HEADER_LEN, LINK_SLOTS, PARAM_SLOTS, CAPSTAN_UNKNOWN_EDITION, 0, "read: an unknown edition");
+    read_refused(text, HEADER_LEN, 0, 0, CAPSTAN_UNKNOWN_EDITION, 0, "read: an unknown edition, and no room");
+    read_refused(text, 2, LINK_SLOTS, PARAM_SLOTS, CAPSTAN_UNKNOWN_EDITION, 0, "read: an unknown edition, and cut short");
+    read_refused(long_text, sizeof long_text, 0, 0, CAPSTAN_UNKNOWN_EDITION, 0, "read: an unknown edition, and 8,193 octets");
+
+    start();
+    finish(CAPSTAN_LIMIT, LINK_SLOTS, PARAM_SLOTS, CAPSTAN_UNKNOWN_EDITION, 0, "finish: an unknown edition, and nothing fed");
+    feed(text, HEADER_LEN, CAPSTAN_LIMIT, CAPSTAN_UNKNOWN_EDITION, 0, "feed: an unknown edition");
+    feed(text, HEADER_LEN, CAPSTAN_LIMIT - 1, CAPSTAN_UNKNOWN_EDITION, 0, "feed: an unknown edition, and no room");
+    feed(octets("a"), 1, CAPSTAN_LIMIT, CAPSTAN_UNKNOWN_EDITION, 0, "feed: an unknown edition, and a fault");
+    feed(long_text, sizeof long_text, CAPSTAN_LIMIT, CAPSTAN_UNKNOWN_EDITION, 0, "feed: an unknown edition, and 8,193 octets");
+    feed(octets(""), 0, 0, CAPSTAN_UNKNOWN_EDITION, 0, "feed: an unknown edition, and nothing");
+    finish(CAPSTAN_LIMIT, LINK_SLOTS, PARAM_SLOTS, CAPSTAN_UNKNOWN_EDITION, 0, "finish: an unknown edition");
+    finish(0, 0, 0, CAPSTAN_UNKNOWN_EDITION, 0, "finish: an unknown edition, and no buffer");
+    test_wild_states();
+}
+
+int main(void)
+{
+    for (edition = CAPSTAN_RFC8288; edition <= CAPSTAN_RFC5988; edition++) test_edition();
+    test_unknown_edition(2);
+    test_unknown_edition(256); /* of whose octets, as of the next one's, the lowest is a known edition */
+    test_unknown_edition((size_t)1 << 32);
+    test_unknown_edition(SIZE_MAX);
     return failures != 0;
 }
