@@ -4,8 +4,8 @@ use core::fmt;
 
 /// A header that arrives in parts: made, fed each part, and finished.
 ///
-/// However the header is cut, the finish answers what [`read`](crate::read()) answers of the whole,
-/// and a feed is refused as soon as no well formed header begins with what was fed.
+/// However the header is cut, the finish answers what [`read_in`](crate::read_in) answers of the
+/// whole, and a feed is refused as soon as no well formed header begins with what was fed.
 ///
 /// ```
 /// use capstanbar::{Feeding, Refusal, LIMIT};
@@ -31,6 +31,7 @@ use core::fmt;
 /// feeding.feed(b"a>");
 /// ```
 pub struct Feeding<'a> {
+    edition: Edition,
     state: FeedingState,
     buffer: &'a mut [u8; LIMIT],
     /// How many octets of the buffer were gathered.
@@ -38,7 +39,8 @@ pub struct Feeding<'a> {
 }
 
 impl<'a> Feeding<'a> {
-    /// A feeding of no parts yet. What the buffer holds doesn't matter.
+    /// A feeding of no parts yet. What the buffer holds doesn't matter. The header is read by RFC
+    /// 8288; [`new_in`](Feeding::new_in) also reads by the older RFC 5988.
     ///
     /// A shorter buffer would be refused by every call. An array of [`LIMIT`] octets can't be
     /// shorter, so there is nothing to refuse; of a longer slice, lend the first octets.
@@ -51,8 +53,31 @@ impl<'a> Feeding<'a> {
     /// assert_eq!(Feeding::new(buffer).gathered(), b"");
     /// ```
     pub fn new(buffer: &'a mut [u8; LIMIT]) -> Feeding<'a> {
+        Feeding::new_in(Edition::Rfc8288, buffer)
+    }
+
+    /// A feeding as [`new`](Feeding::new) makes it, in that edition.
+    ///
+    /// ```
+    /// use capstanbar::{Edition, Feeding, Refusal, LIMIT};
+    ///
+    /// let (mut buffer, mut links, mut params) = ([0; LIMIT], [0; 4], [0; 5]);
+    /// let mut feeding = Feeding::new_in(Edition::Rfc5988, &mut buffer);
+    /// feeding.feed(b"<a>;rel=http:/")?;
+    /// feeding.feed(b"/example.net/foo")?;
+    /// let table = feeding.table(&mut links, &mut params)?;
+    /// assert_eq!(table.edition(), Edition::Rfc5988);
+    /// assert_eq!(table.search(b"http://example.net/foo")?.target(), b"a");
+    ///
+    /// let mut feeding = Feeding::new(&mut buffer);
+    /// let refused = Err(Refusal::Malformed { place: 12 });
+    /// assert_eq!(feeding.feed(b"<a>;rel=http:/"), refused);
+    /// # Ok::<(), Refusal>(())
+    /// ```
+    pub fn new_in(edition: Edition, buffer: &'a mut [u8; LIMIT]) -> Feeding<'a> {
         Feeding {
-            state: ffi::start(Edition::Rfc8288.number()),
+            edition,
+            state: ffi::start(edition.number()),
             buffer,
             length: 0,
         }
@@ -102,8 +127,8 @@ impl<'a> Feeding<'a> {
         &self.buffer[..self.length]
     }
 
-    /// Reads all that was fed into the slots lent, as [`read`](crate::read()) reads a whole header.
-    /// Asked again it answers the same, and feeds may go on.
+    /// Reads all that was fed into the slots lent, as [`read_in`](crate::read_in) reads a whole
+    /// header. Asked again it answers the same, and feeds may go on.
     ///
     /// Refused in this order: too long, malformed, no link room, no parameter room. A header cut
     /// short is malformed at its end.
@@ -160,7 +185,13 @@ impl<'a> Feeding<'a> {
         let counts = self.finish(links, params)?;
         // What is read is good, and it was read from all that was fed: nothing was refused, or the
         // finish would have been.
-        Ok(Table::of(self.gathered(), links, params, counts))
+        Ok(Table::of(
+            self.edition,
+            self.gathered(),
+            links,
+            params,
+            counts,
+        ))
     }
 
     /// Finishes for good: the view may be used as long as the buffer is lent, also where the feeding
@@ -194,6 +225,7 @@ impl<'a> Feeding<'a> {
     ) -> Result<Table<'a>, Refusal> {
         let counts = self.finish(links, params)?;
         Ok(Table::of(
+            self.edition,
             &self.buffer[..self.length],
             links,
             params,

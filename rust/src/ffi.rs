@@ -26,6 +26,7 @@ use symbols::{
 /// let mut links = [0; 4];
 /// let answer = capstanbar::ffi::read(0, b"<a>", &mut links, &mut []);
 /// assert_eq!((answer.number, answer.links, links), (0, 1, [1, 2, 0, 0]));
+/// assert_eq!(capstanbar::ffi::read(2, b"<a>", &mut links, &mut []).number, 10);
 /// ```
 pub fn read(
     edition: usize,
@@ -50,10 +51,14 @@ pub fn read(
     }
 }
 
-/// The state that a feeding starts with.
+/// The state that a feeding starts with. In an unknown edition nothing can be fed to it.
 ///
 /// ```
-/// assert_eq!(capstanbar::ffi::start(0).total, 0);
+/// use capstanbar::ffi::{feed, start};
+///
+/// assert_eq!(start(1).total, 0);
+/// let answer = feed(start(2), b"<a", &mut [0; 8192]);
+/// assert_eq!((answer.number, answer.next), (10, start(2)));
 /// ```
 pub fn start(edition: usize) -> FeedingState {
     // SAFETY: nothing is lent.

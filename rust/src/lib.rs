@@ -1,5 +1,5 @@
-//! HTTP `Link` field values (RFC 8288): read into tables that the caller lends, asked, and written
-//! back in one fixed form.
+//! HTTP `Link` field values (RFC 8288, and the older RFC 5988): read into tables that the caller lends,
+//! asked, and written back in one fixed form.
 //!
 //! The work is done by a static library whose promises are proved for every input; this crate makes
 //! it safe and pleasant to call. It allocates nothing and needs no `std`.
@@ -43,6 +43,25 @@
 //! assert!(languages.eq([b"en", b"de"]));
 //! assert!(next.find(b"Pack").is_some());
 //! # Ok::<(), capstanbar::Refusal>(())
+//! ```
+//!
+//! Some servers still write by RFC 5988, and leave values bare that RFC 8288 wants in quotes. Their
+//! headers are read in that [`Edition`], which the table remembers; what it writes reads in both:
+//!
+//! ```
+//! use capstanbar::{Edition, Refusal, Table};
+//!
+//! let (mut links, mut params) = ([0; 4 * 16], [0; 5 * 64]);
+//! let header = b"</packs/9>; rel=http://example.net/foo";
+//! let refused = Table::read(header, &mut links, &mut params);
+//! assert_eq!(refused.unwrap_err(), Refusal::Malformed { place: 20 });
+//!
+//! let table = Table::read_in(Edition::Rfc5988, header, &mut links, &mut params)?;
+//! assert_eq!(table.search(b"http://example.net/foo")?.target(), b"/packs/9");
+//! let written = br#"</packs/9>; rel="http://example.net/foo""#;
+//! assert_eq!(table.write(&mut [0; 64])?, written);
+//! assert!(Table::read(written, &mut [0; 4], &mut [0; 5]).is_ok());
+//! # Ok::<(), Refusal>(())
 //! ```
 //!
 //! Any two texts compare as names do. The answer also says how many pairs of octets were compared:
@@ -103,6 +122,6 @@ pub use limits::{LIMIT, LINK_SLOTS, PARAM_SLOTS};
 pub use link::{Link, Links};
 pub use name::{ByName, Name};
 pub use param::{Form, NamedParams, Param, Params};
-pub use read::{read, Counts};
+pub use read::{read, read_in, Counts};
 pub use refusal::Refusal;
 pub use table::Table;

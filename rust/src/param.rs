@@ -4,12 +4,16 @@ use core::ops::Range;
 /// How a parameter's value is written.
 ///
 /// ```
-/// use capstanbar::Form;
+/// use capstanbar::{Edition, Form, Table};
 ///
 /// # let (mut links, mut params) = ([0; 4], [0; 15]);
-/// let table = capstanbar::Table::read(br#"<a>;x;y=z;t="u""#, &mut links, &mut params)?;
+/// let table = Table::read(br#"<a>;x;y=z;t="u""#, &mut links, &mut params)?;
 /// let forms = table.link(0).unwrap().params().map(|param| param.form());
 /// assert!(forms.eq([Form::NoValue, Form::Token, Form::Quoted]));
+///
+/// let header = b"<a>;y=/z";
+/// let table = Table::read_in(Edition::Rfc5988, header, &mut links, &mut params)?;
+/// assert_eq!(table.link(0).unwrap().find(b"y").unwrap().form(), Form::Wider);
 /// # Ok::<(), capstanbar::Refusal>(())
 /// ```
 #[derive(Clone, Copy, Debug, PartialEq, Eq, Hash)]
@@ -21,6 +25,8 @@ pub enum Form {
     Token,
     /// A quoted string.
     Quoted,
+    /// Bare, but no token. Only [`Edition::Rfc5988`](crate::Edition::Rfc5988) has such values.
+    Wider,
 }
 
 /// A parameter of a link.
@@ -123,7 +129,8 @@ impl<'a> Param<'a> {
         match form {
             0 => Form::NoValue,
             1 => Form::Token,
-            _ => Form::Quoted,
+            2 => Form::Quoted,
+            _ => Form::Wider,
         }
     }
 

@@ -29,7 +29,8 @@ impl Counts {
 }
 
 /// Reads a field value into the slots lent, four a link and five a parameter, and answers how many
-/// of each there are. Slots past those used, and all slots on a refusal, keep what they held.
+/// of each there are. Slots past those used, and all slots on a refusal, keep what they held. The
+/// value is read by RFC 8288; [`read_in`] also reads by the older RFC 5988.
 ///
 /// Refused in this order: too long, malformed, no link room, no parameter room.
 ///
@@ -52,5 +53,28 @@ impl Counts {
 /// # Ok::<(), Refusal>(())
 /// ```
 pub fn read(header: &[u8], links: &mut [usize], params: &mut [usize]) -> Result<Counts, Refusal> {
-    Counts::check(ffi::read(Edition::Rfc8288.number(), header, links, params))
+    read_in(Edition::Rfc8288, header, links, params)
+}
+
+/// Reads a field value as [`read`] does, in that edition.
+///
+/// ```
+/// use capstanbar::{read_in, Edition, Refusal};
+///
+/// let (mut links, mut params) = ([0; 4], [0; 5]);
+/// let header = b"<a>;rel=http://example.net/foo";
+/// let refused = read_in(Edition::Rfc8288, header, &mut links, &mut params);
+/// assert_eq!(refused, Err(Refusal::Malformed { place: 12 }));
+///
+/// read_in(Edition::Rfc5988, header, &mut links, &mut params)?;
+/// assert_eq!((links, params), ([1, 2, 0, 1], [4, 7, 8, 30, 3]));
+/// # Ok::<(), Refusal>(())
+/// ```
+pub fn read_in(
+    edition: Edition,
+    header: &[u8],
+    links: &mut [usize],
+    params: &mut [usize],
+) -> Result<Counts, Refusal> {
+    Counts::check(ffi::read(edition.number(), header, links, params))
 }

@@ -39,6 +39,9 @@ pub enum Refusal {
     NoSuchLink,
     /// There is no such parameter, or no link has the relation.
     NotFound,
+    /// The number is no edition's. Only [`ffi`](crate::ffi) can be given one; an
+    /// [`Edition`](crate::Edition) is always known.
+    UnknownEdition,
 }
 
 impl Refusal {
@@ -49,7 +52,7 @@ impl Refusal {
     ///
     /// assert_eq!(Refusal::TooLong.number(), 1);
     /// assert_eq!(Refusal::Malformed { place: 13 }.number(), 2);
-    /// assert_eq!(Refusal::NotFound.number(), 9);
+    /// assert_eq!(Refusal::UnknownEdition.number(), 10);
     /// ```
     pub const fn number(self) -> usize {
         match self {
@@ -62,13 +65,14 @@ impl Refusal {
             Refusal::NoOutputRoom => 7,
             Refusal::NoSuchLink => 8,
             Refusal::NotFound => 9,
+            Refusal::UnknownEdition => 10,
         }
     }
 
     /// What the answered number says: nothing refused, or the refusal. The place counts with number
     /// 2 alone.
     ///
-    /// The library is proved to answer no other number, so one past 9 means that the library linked
+    /// The library is proved to answer no other number, so one past 10 means that the library linked
     /// isn't the one this crate was made for.
     pub(crate) fn check(number: usize, place: usize) -> Result<(), Refusal> {
         Err(match number {
@@ -82,6 +86,7 @@ impl Refusal {
             7 => Refusal::NoOutputRoom,
             8 => Refusal::NoSuchLink,
             9 => Refusal::NotFound,
+            10 => Refusal::UnknownEdition,
             _ => panic!("the library answered the unknown number {number}"),
         })
     }
@@ -99,6 +104,7 @@ impl fmt::Display for Refusal {
             Refusal::NoOutputRoom => "output buffer too short",
             Refusal::NoSuchLink => "no such link",
             Refusal::NotFound => "not found",
+            Refusal::UnknownEdition => "unknown edition",
         })
     }
 }

@@ -1,5 +1,5 @@
 use crate::ffi::{self, RawTable};
-use crate::{read, Counts, Edition, Link, Links, Refusal, LINK_SLOTS, PARAM_SLOTS};
+use crate::{read_in, Counts, Edition, Link, Links, Refusal, LINK_SLOTS, PARAM_SLOTS};
 
 /// A good table: a text, and link and parameter records in slots that are lent as long as it lives.
 ///
@@ -27,6 +27,7 @@ use crate::{read, Counts, Edition, Link, Links, Refusal, LINK_SLOTS, PARAM_SLOTS
 /// ```
 #[derive(Clone, Copy, Debug)]
 pub struct Table<'a> {
+    edition: Edition,
     raw: RawTable<'a>,
 }
 
@@ -50,12 +51,34 @@ impl<'a> Table<'a> {
         links: &'a mut [usize],
         params: &'a mut [usize],
     ) -> Result<Table<'a>, Refusal> {
-        let counts = read(header, links, params)?;
+        Table::read_in(Edition::Rfc8288, header, links, params)
+    }
+
+    /// Reads a field value as [`read`](Table::read) does, in that edition. What is asked of the table
+    /// is answered in it, too.
+    ///
+    /// ```
+    /// use capstanbar::{Edition, Refusal, Table};
+    ///
+    /// let (mut links, mut params) = ([0; 4], [0; 5]);
+    /// let header = b"<a>;rel=http://example.net/foo";
+    /// let table = Table::read_in(Edition::Rfc5988, header, &mut links, &mut params)?;
+    /// assert_eq!(table.search(b"HTTP://example.net/foo")?.target(), b"a");
+    /// # Ok::<(), Refusal>(())
+    /// ```
+    pub fn read_in(
+        edition: Edition,
+        header: &'a [u8],
+        links: &'a mut [usize],
+        params: &'a mut [usize],
+    ) -> Result<Table<'a>, Refusal> {
+        let counts = read_in(edition, header, links, params)?;
         // What is read is good: the library is proved to leave a good table.
-        Ok(Table::of(header, links, params, counts))
+        Ok(Table::of(edition, header, links, params, counts))
     }
 
     /// Takes records made elsewhere, which may hold any numbers: a table that isn't good is refused.
+    /// It is judged by RFC 8288; [`new_in`](Table::new_in) also judges by the older RFC 5988.
     ///
     /// Refused in this order: too long, bad table.
     ///
@@ -76,12 +99,34 @@ impl<'a> Table<'a> {
         params: &'a [usize],
         counts: Counts,
     ) -> Result<Table<'a>, Refusal> {
-        let table = Table::of(text, links, params, counts);
+        Table::new_in(Edition::Rfc8288, text, links, params, counts)
+    }
+
+    /// Takes records made elsewhere as [`new`](Table::new) does, in that edition: the one that they
+    /// were read in.
+    ///
+    /// ```
+    /// use capstanbar::{read_in, Edition, Refusal, Table};
+    ///
+    /// let (mut links, mut params) = ([0; 4], [0; 5]);
+    /// let header = b"<a>;rel=b/c";
+    /// let counts = read_in(Edition::Rfc5988, header, &mut links, &mut params)?;
+    /// assert!(Table::new_in(Edition::Rfc5988, header, &links, &params, counts).is_ok());
+    ///
+    /// let bare = Table::new_in(Edition::Rfc8288, header, &links, &params, counts);
+    /// assert_eq!(bare.unwrap_err(), Refusal::BadTable);
+    /// # Ok::<(), Refusal>(())
+    /// ```
+    pub fn new_in(
+        edition: Edition,
+        text: &'a [u8],
+        links: &'a [usize],
+        params: &'a [usize],
+        counts: Counts,
+    ) -> Result<Table<'a>, Refusal> {
+        let table = Table::of(edition, text, links, params, counts);
         // No link has the empty relation, so of a good table it isn't found.
-        match Refusal::check(
-            ffi::search(Edition::Rfc8288.number(), table.raw, b"").number,
-            0,
-        ) {
+        match Refusal::check(ffi::search(edition.number(), table.raw, b"").number, 0) {
             Ok(()) | Err(Refusal::NotFound) => Ok(table),
             Err(refusal) => Err(refusal),
         }
@@ -89,12 +134,14 @@ impl<'a> Table<'a> {
 
     /// Whoever hands it out must know that it is good.
     pub(crate) fn of(
+        edition: Edition,
         text: &'a [u8],
         links: &'a [usize],
         params: &'a [usize],
         counts: Counts,
     ) -> Table<'a> {
         Table {
+            edition,
             raw: RawTable {
                 text,
                 links,
@@ -120,6 +167,22 @@ impl<'a> Table<'a> {
         }
     }
 
+    /// The edition that it was read in, or is judged in.
+    ///
+    /// ```
+    /// use capstanbar::{Edition, Table};
+    ///
+    /// # let (mut links, mut params) = ([0; 8], [0; 10]);
+    /// let table = Table::read(b"<a>", &mut links, &mut params)?;
+    /// assert_eq!(table.edition(), Edition::Rfc8288);
+    /// let table = Table::read_in(Edition::Rfc5988, b"<a>", &mut links, &mut params)?;
+    /// assert_eq!(table.edition(), Edition::Rfc5988);
+    /// # Ok::<(), capstanbar::Refusal>(())
+    /// ```
+    pub fn edition(&self) -> Edition {
+        self.edition
+    }
+
     /// The text that its records are places in.
     ///
     /// ```
@@ -132,7 +195,7 @@ impl<'a> Table<'a> {
         self.raw.text
     }
 
-    /// The table as the C interface takes it.
+    /// The table as the C interface takes it behind the edition.
     ///
     /// ```
     /// # let (mut links, mut params) = ([0; 8], [0; 10]);
@@ -184,7 +247,7 @@ impl<'a> Table<'a> {
     /// # Ok::<(), Refusal>(())
     /// ```
     pub fn search(&self, relation: &[u8]) -> Result<Link<'a>, Refusal> {
-        let answer = ffi::search(Edition::Rfc8288.number(), self.raw, relation);
+        let answer = ffi::search(self.edition.number(), self.raw, relation);
         Refusal::check(answer.number, 0)?;
         Ok(Link::of(*self, answer.link))
     }
@@ -208,7 +271,7 @@ impl<'a> Table<'a> {
     where
         'a: 'c,
     {
-        let answer = ffi::context(Edition::Rfc8288.number(), self.raw, base, link);
+        let answer = ffi::context(self.edition.number(), self.raw, base, link);
         Refusal::check(answer.number, 0)?;
         let whole = if answer.source == 1 {
             self.raw.text
@@ -242,13 +305,14 @@ impl<'a> Table<'a> {
         place: usize,
         out: &'o mut [u8],
     ) -> Result<&'o [u8], Refusal> {
-        let answer = ffi::value(Edition::Rfc8288.number(), self.raw, link, place, out);
+        let answer = ffi::value(self.edition.number(), self.raw, link, place, out);
         Refusal::check(answer.number, 0)?;
         Ok(&out[..answer.length])
     }
 
     /// Writes the table in its one fixed form to the beginning of the output, and hands back what
-    /// was written. Names are folded to lower case; a value stands bare if it is a token.
+    /// was written. Names are folded to lower case; a value stands bare if it is a token, and so reads
+    /// in every edition.
     ///
     /// Refused in this order: no relation, too long, no output room. [`LIMIT`](crate::LIMIT) octets
     /// of room are always enough.
@@ -265,7 +329,7 @@ impl<'a> Table<'a> {
     /// # Ok::<(), Refusal>(())
     /// ```
     pub fn write<'o>(&self, out: &'o mut [u8]) -> Result<&'o [u8], Refusal> {
-        let answer = ffi::write(Edition::Rfc8288.number(), self.raw, out);
+        let answer = ffi::write(self.edition.number(), self.raw, out);
         Refusal::check(answer.number, 0)?;
         Ok(&out[..answer.length])
     }

@@ -14,6 +14,7 @@ fn numbers_and_words() {
         (Refusal::NoOutputRoom, "output buffer too short"),
         (Refusal::NoSuchLink, "no such link"),
         (Refusal::NotFound, "not found"),
+        (Refusal::UnknownEdition, "unknown edition"),
     ];
     for (number, (refusal, words)) in (1..).zip(all) {
         assert_eq!(refusal.number(), number);
