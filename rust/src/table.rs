@@ -311,8 +311,8 @@ impl<'a> Table<'a> {
     }
 
     /// Writes the table in its one fixed form to the beginning of the output, and hands back what
-    /// was written. Names are folded to lower case; a value stands bare if it is a token, and so reads
-    /// in every edition.
+    /// was written. Names are folded to lower case; a value stands bare if it is a token, else in
+    /// quotes, so that it reads in every edition.
     ///
     /// Refused in this order: no relation, too long, no output room. [`LIMIT`](crate::LIMIT) octets
     /// of room are always enough.

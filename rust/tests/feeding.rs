@@ -1,8 +1,8 @@
-//! Headers in parts, however they are cut, held to what reading says of the octets fed.
+//! Headers in parts, however they are cut, held in each edition to what reading says of the octets fed.
 
-use capstanbar::{read, Counts, Feeding, Refusal, LIMIT};
+use capstanbar::{read_in, Counts, Edition, Feeding, Refusal, LIMIT};
 
-const HEADERS: [&[u8]; 9] = [
+const HEADERS: [&[u8]; 11] = [
     b"",
     b" , </packs/6>; rel=prev,,",
     br#"<a>; title="12, \"3"; rel*, <b>"#,
@@ -12,35 +12,43 @@ const HEADERS: [&[u8]; 9] = [
     b"<a%4g>;rel=next",
     br#"<a>;t="b\"#,
     b"<a>;t=\"\x7f\", <b>\n",
+    b"<a>;rel=http://b/;x = <c>==, <d>",
+    b"<a>;x==/ <b>",
 ];
 
 type Slots = ([usize; 8], [usize; 20]);
 
 /// What is read of a whole header, with the slots.
-fn whole(header: &[u8]) -> (Result<Counts, Refusal>, Slots) {
+fn whole(edition: Edition, header: &[u8]) -> (Result<Counts, Refusal>, Slots) {
     let mut slots = ([7; 8], [7; 20]);
-    let counts = read(header, &mut slots.0, &mut slots.1);
+    let counts = read_in(edition, header, &mut slots.0, &mut slots.1);
     (counts, slots)
 }
 
 /// What a feed must answer where these are all the octets fed: one that is cut short is no fault.
-fn due(octets: &[u8]) -> Result<(), Refusal> {
-    match whole(octets).0 {
+fn due(edition: Edition, octets: &[u8]) -> Result<(), Refusal> {
+    match whole(edition, octets).0 {
         Err(Refusal::Malformed { place }) if place == octets.len() => Ok(()),
         Err(refusal @ (Refusal::TooLong | Refusal::Malformed { .. })) => Err(refusal),
         _ => Ok(()),
     }
 }
 
-/// Feeds the parts, and holds each answer, the octets gathered and two finishes to what is due.
 fn check(parts: &[&[u8]]) {
+    for &edition in Edition::ALL {
+        check_in(edition, parts);
+    }
+}
+
+/// Feeds the parts, and holds each answer, the octets gathered and two finishes to what is due.
+fn check_in(edition: Edition, parts: &[&[u8]]) {
     let mut buffer = [b'<'; LIMIT];
-    let mut feeding = Feeding::new(&mut buffer);
+    let mut feeding = Feeding::new_in(edition, &mut buffer);
     let (mut fed, mut gathered) = (vec![], vec![]);
     for part in parts {
         fed.extend_from_slice(part);
         let answer = feeding.feed(part);
-        assert_eq!(answer, due(&fed), "{parts:?}");
+        assert_eq!(answer, due(edition, &fed), "{edition:?} {parts:?}");
         if answer.is_ok() {
             gathered.extend_from_slice(part);
         }
@@ -49,7 +57,8 @@ fn check(parts: &[&[u8]]) {
     for _ in 0..2 {
         let mut slots = ([7; 8], [7; 20]);
         let counts = feeding.finish(&mut slots.0, &mut slots.1);
-        assert_eq!((counts, slots), whole(&fed), "{parts:?}");
+        let due = whole(edition, &fed);
+        assert_eq!((counts, slots), due, "{edition:?} {parts:?}");
     }
     assert!(buffer.starts_with(&gathered));
     assert!(buffer[gathered.len()..].iter().all(|&octet| octet == b'<'));
@@ -115,6 +124,21 @@ fn a_view_of_what_was_fed() {
     let table = feeding.into_table(&mut links, &mut params).unwrap();
     assert_eq!(table.text(), b"<a>; rel=next, <b>; rel=prev");
     assert_eq!(table.search(b"prev").unwrap().target(), b"b");
+    assert_eq!(table.edition(), Edition::Rfc8288);
+}
+
+#[test]
+fn a_view_remembers_the_edition() {
+    let (mut links, mut params) = ([0; 4], [0; 5]);
+    let mut buffer = [0; LIMIT];
+    let mut feeding = Feeding::new_in(Edition::Rfc5988, &mut buffer);
+    feeding.feed(b"<a>; rel=b").unwrap();
+    feeding.feed(b"/c").unwrap();
+    let table = feeding.table(&mut links, &mut params).unwrap();
+    assert_eq!(table.search(b"b/c").unwrap().target(), b"a");
+    let table = feeding.into_table(&mut links, &mut params).unwrap();
+    assert_eq!(table.edition(), Edition::Rfc5988);
+    assert_eq!(table.search(b"b/c").unwrap().target(), b"a");
 }
 
 #[test]

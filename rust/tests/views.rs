@@ -1,7 +1,7 @@
 //! Views of tables made by reading or by hand, with any numbers.
 
 use capstanbar::ffi::{context, search, value, write, RawTable};
-use capstanbar::{Counts, Form, Refusal, Table};
+use capstanbar::{Counts, Edition, Form, Refusal, Table};
 
 const TEXT: &[u8] = b"rel=\\\"%41";
 const LINKS: [usize; 8] = [6, 9, 0, 2, 3, 3, 2, 0];
@@ -52,33 +52,41 @@ fn octets(table: Table) -> usize {
     own.sum::<usize>() + rest.sum::<usize>()
 }
 
-fn assert_refused(raw: RawTable) {
-    assert_eq!(search(0, raw, b"x").number, 5);
-    assert_eq!(context(0, raw, b"x", 0).number, 5);
-    assert_eq!(value(0, raw, 0, 0, &mut []).number, 5);
-    assert_eq!(write(0, raw, &mut []).number, 5);
+fn assert_refused(edition: Edition, raw: RawTable) {
+    let edition = edition.number();
+    assert_eq!(search(edition, raw, b"x").number, 5);
+    assert_eq!(context(edition, raw, b"x", 0).number, 5);
+    assert_eq!(value(edition, raw, 0, 0, &mut []).number, 5);
+    assert_eq!(write(edition, raw, &mut []).number, 5);
 }
 
 #[test]
 fn any_number_in_any_slot_is_good_or_refused() {
+    for &edition in Edition::ALL {
+        any_number_in_any_slot(edition);
+    }
+}
+
+fn any_number_in_any_slot(edition: Edition) {
     let numbers = [0, 1, 2, 3, 4, 5, 9, 10, usize::MAX - 1, usize::MAX];
     let (mut good, mut refused) = (0, 0);
     for (place, number) in (0..20).flat_map(|place| numbers.map(|number| (place, number))) {
         let (links, params, counts) = changed(place, number);
-        match Table::new(TEXT, &links, &params, counts) {
+        match Table::new_in(edition, TEXT, &links, &params, counts) {
             Ok(table) => {
                 assert!(octets(table) < 100);
                 good += 1;
             }
             Err(refusal) => {
                 assert_eq!(refusal, Refusal::BadTable);
-                assert_refused(RawTable {
+                let raw = RawTable {
                     text: TEXT,
                     links: &links,
                     params: &params,
                     link_count: counts.links,
                     param_count: counts.params,
-                });
+                };
+                assert_refused(edition, raw);
                 refused += 1;
             }
         }
