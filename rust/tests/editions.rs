@@ -136,6 +136,30 @@ fn alike_in_both() {
     }
 }
 
+/// One link and any six of these octets: what the newer edition accepts, the older one reads to the
+/// same records; and where both refuse, the older one comes at least as far.
+#[test]
+fn the_older_edition_reads_what_the_newer_does() {
+    const OCTETS: &[u8; 9] = b"<a>;=/, \"";
+    for number in 0..OCTETS.len().pow(6) {
+        let mut header = *b"<a>......";
+        let mut rest = number;
+        for octet in &mut header[3..] {
+            *octet = OCTETS[rest % OCTETS.len()];
+            rest /= OCTETS.len();
+        }
+        let (newer, older) = (reading(Rfc8288, &header), reading(Rfc5988, &header));
+        let agree = match (newer.0, older.0) {
+            (Ok(_), _) => newer == older,
+            (Err(Refusal::Malformed { place }), Err(Refusal::Malformed { place: further })) => {
+                place <= further
+            }
+            (Err(_), older) => older.is_ok(),
+        };
+        assert!(agree, "{}", header.escape_ascii());
+    }
+}
+
 #[test]
 fn each_octet_in_a_bare_value() {
     for octet in 0..=u8::MAX {
