@@ -79,7 +79,8 @@ fn in_order(mut steps: Vec<Vec<Node>>) -> Vec<Node> {
 #[cfg(test)]
 mod tests {
     use super::*;
-    use crate::grammar::FIELD;
+    use crate::edition::Edition;
+    use crate::grammar::field;
     use crate::reading::links;
     use crate::sets::derives;
 
@@ -131,17 +132,23 @@ mod tests {
             .collect()
     }
 
-    /// Asserts that all derivations of the header give one reading, and that
-    /// it is the one found; or that the header has none at all.
+    /// Asserts that in each edition all derivations of the header give one
+    /// reading, and that it is the one found; or that the header has none at all.
     fn assert_one_reading(header: &[u8]) {
-        let all: Vec<Vec<Node>> = every(&FIELD, header, 0)
+        for edition in [Edition::Rfc8288, Edition::Rfc5988] {
+            assert_one_reading_in(field(edition), header);
+        }
+    }
+
+    fn assert_one_reading_in(field: &Rule, header: &[u8]) {
+        let all: Vec<Vec<Node>> = every(field, header, 0)
             .into_iter()
             .filter(|(end, _)| *end == header.len())
             .map(|(_, nodes)| nodes)
             .collect();
-        assert_eq!(derives(&FIELD, header), !all.is_empty(), "{header:?}");
+        assert_eq!(derives(field, header), !all.is_empty(), "{header:?}");
         if !all.is_empty() {
-            let found = derivation(&FIELD, header, Span::whole(header));
+            let found = derivation(field, header, Span::whole(header));
             assert!(all.contains(&found));
             for nodes in &all {
                 assert_eq!(links(header, nodes), links(header, &found), "{header:?}");
@@ -158,6 +165,7 @@ mod tests {
             "<a,<b>",
             "<a>;t=\"b,c\" ; u,<%41>",
             "<a>;t=\"b\\\\\",<c>;t=\"\"",
+            "<a>;x = =<b>=/ , <c>;y=?;z=d:e",
         ] {
             assert_one_reading(header.as_bytes());
         }

@@ -4,6 +4,7 @@
 //! each rule derives at least one text, and what stands under [`Rule::Any`]
 //! never derives the empty text.
 
+use crate::edition::Edition;
 use crate::octet;
 use Rule::{Any, Either, Labelled, One, Seq};
 
@@ -30,6 +31,7 @@ pub enum Label {
     Name,
     Token,
     Quoted,
+    Further,
 }
 
 static NOTHING: Rule = Seq(&[]);
@@ -43,45 +45,72 @@ static LESS: Rule = One(|octet| octet == b'<');
 static GREATER: Rule = One(|octet| octet == b'>');
 static HEX: Rule = One(octet::hex);
 static TOKEN_OCTET: Rule = One(octet::token);
+static FURTHER_OCTET: Rule = One(octet::further);
 
 /// OWS and BWS.
 static BLANKS: Rule = Any(&One(octet::blank));
 
-/// Field: blanks at both ends don't count; between them a comma list.
-pub static FIELD: Rule = Seq(&[&BLANKS, &LIST, &BLANKS]);
+/// The field, as the edition has it.
+pub fn field(edition: Edition) -> &'static Rule {
+    match edition {
+        Edition::Rfc8288 => &rfc8288::FIELD,
+        Edition::Rfc5988 => &rfc5988::FIELD,
+    }
+}
 
-/// RFC 9110 section 5.6.1: `[ element ] *( OWS "," OWS [ element ] )`.
-static LIST: Rule = Seq(&[&PLACE, &Any(&Seq(&[&BLANKS, &COMMA, &BLANKS, &PLACE]))]);
+/// The rules that have a value in them, over what may stand there in an edition.
+macro_rules! edition {
+    ($edition:ident: $($value:expr),+) => {
+        mod $edition {
+            use super::*;
 
-/// A place of the list: empty or one link.
-static PLACE: Rule = Either(&[&LINK, &NOTHING]);
+            /// Field: blanks at both ends don't count; between them a comma list.
+            pub static FIELD: Rule = Seq(&[&BLANKS, &LIST, &BLANKS]);
 
-static LINK: Rule = Labelled(
-    Label::Link,
-    &Seq(&[
-        &LESS,
-        &Labelled(Label::Target, &TARGET),
-        &GREATER,
-        &Any(&Seq(&[&BLANKS, &SEMICOLON, &BLANKS, &PARAMETER])),
-    ]),
-);
+            /// RFC 9110 section 5.6.1: `[ element ] *( OWS "," OWS [ element ] )`.
+            static LIST: Rule = Seq(&[&PLACE, &Any(&Seq(&[&BLANKS, &COMMA, &BLANKS, &PLACE]))]);
 
-static PARAMETER: Rule = Labelled(
-    Label::Parameter,
-    &Seq(&[
-        &Labelled(Label::Name, &TOKEN),
-        &BLANKS,
-        &Either(&[&Seq(&[&EQUALS, &BLANKS, &VALUE]), &NOTHING]),
-    ]),
-);
+            /// A place of the list: empty or one link.
+            static PLACE: Rule = Either(&[&LINK, &NOTHING]);
 
-static VALUE: Rule = Either(&[
-    &Labelled(Label::Token, &TOKEN),
-    &Seq(&[&QUOTE, &Labelled(Label::Quoted, &QUOTED), &QUOTE]),
-]);
+            pub static LINK: Rule = Labelled(
+                Label::Link,
+                &Seq(&[
+                    &LESS,
+                    &Labelled(Label::Target, &TARGET),
+                    &GREATER,
+                    &Any(&Seq(&[&BLANKS, &SEMICOLON, &BLANKS, &PARAMETER])),
+                ]),
+            );
+
+            pub static PARAMETER: Rule = Labelled(
+                Label::Parameter,
+                &Seq(&[
+                    &Labelled(Label::Name, &TOKEN),
+                    &BLANKS,
+                    &Either(&[&Seq(&[&EQUALS, &BLANKS, &VALUE]), &NOTHING]),
+                ]),
+            );
+
+            static VALUE: Rule = Either(&[$($value),+]);
+        }
+    };
+}
+
+edition!(rfc8288: &TOKEN_VALUE, &QUOTED_VALUE);
+edition!(rfc5988: &TOKEN_VALUE, &FURTHER_VALUE, &QUOTED_VALUE);
+
+static TOKEN_VALUE: Rule = Labelled(Label::Token, &TOKEN);
+static FURTHER_VALUE: Rule = Labelled(Label::Further, &FURTHER);
+static QUOTED_VALUE: Rule = Seq(&[&QUOTE, &Labelled(Label::Quoted, &QUOTED), &QUOTE]);
 
 /// Token, and name.
 pub static TOKEN: Rule = Seq(&[&TOKEN_OCTET, &Any(&TOKEN_OCTET)]);
+
+/// RFC 5988's `ptoken`, where it is no token: one of its octets at least is none of a token's.
+pub static FURTHER: Rule = Seq(&[&PTOKEN_OCTETS, &FURTHER_OCTET, &PTOKEN_OCTETS]);
+
+static PTOKEN_OCTETS: Rule = Any(&Either(&[&TOKEN_OCTET, &FURTHER_OCTET]));
 
 /// What stands between the quotes of a quoted string.
 pub static QUOTED: Rule = Any(&Either(&[
@@ -116,10 +145,16 @@ mod tests {
 
     #[test]
     fn every_rule_derives_a_text_and_no_repeated_part_is_empty() {
-        assert_eq!(shortest(&FIELD), Some(0));
-        assert_eq!(shortest(&LINK), Some(2));
-        assert_eq!(shortest(&PARAMETER), Some(1));
+        for [field, link, parameter] in [
+            [&rfc8288::FIELD, &rfc8288::LINK, &rfc8288::PARAMETER],
+            [&rfc5988::FIELD, &rfc5988::LINK, &rfc5988::PARAMETER],
+        ] {
+            assert_eq!(shortest(field), Some(0));
+            assert_eq!(shortest(link), Some(2));
+            assert_eq!(shortest(parameter), Some(1));
+        }
         assert_eq!(shortest(&TOKEN), Some(1));
+        assert_eq!(shortest(&FURTHER), Some(1));
         assert_eq!(shortest(&QUOTED), Some(0));
         assert_eq!(shortest(&TARGET), Some(0));
     }

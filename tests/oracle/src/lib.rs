@@ -8,6 +8,9 @@
 //! came so far (`feeding`). All else follows the rules' definitions word by
 //! word. Clarity comes before speed.
 //!
+//! What is asked of headers and tables begins with the number of an edition:
+//! 0 is RFC 8288's, 1 RFC 5988's.
+//!
 //! Tables are lent as slots of plain numbers, and every answer begins with
 //! one of the rules' numbers ([`number`]), but for the code of a name and the
 //! comparison of two texts, which refuse nothing.
@@ -16,6 +19,7 @@ mod code;
 mod comparison;
 mod context;
 mod derivation;
+mod edition;
 mod feeding;
 mod grammar;
 mod kept;

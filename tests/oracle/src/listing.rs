@@ -3,6 +3,8 @@
 use crate::number::DONE;
 use crate::read::{read, ReadAnswer};
 
+/// The number of the edition that it reads in.
+pub const RFC_8288: usize = 0;
 pub const LINK_ROOM: usize = 256;
 pub const PARAM_ROOM: usize = 1024;
 
@@ -10,17 +12,19 @@ pub const PARAM_ROOM: usize = 1024;
 /// final LF, if there, that doesn't belong to it.
 pub fn listing(input: &[u8]) -> String {
     let header = input.strip_suffix(b"\n").unwrap_or(input);
-    let (lines, _) = listed(header, &mut [0; LINK_ROOM * 4], &mut [0; PARAM_ROOM * 5]);
+    let (mut link_slots, mut param_slots) = ([0; LINK_ROOM * 4], [0; PARAM_ROOM * 5]);
+    let (lines, _) = listed(RFC_8288, header, &mut link_slots, &mut param_slots);
     lines
 }
 
 /// Reads the header into the lent slots: the lines listed, and the answer.
 pub fn listed(
+    edition: usize,
     header: &[u8],
     link_slots: &mut [usize],
     param_slots: &mut [usize],
 ) -> (String, ReadAnswer) {
-    let answer = read(header, link_slots, param_slots);
+    let answer = read(edition, header, link_slots, param_slots);
     if answer.number != DONE {
         return (line("refused", &[answer.number, answer.place]), answer);
     }

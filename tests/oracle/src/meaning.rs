@@ -17,15 +17,23 @@ pub struct LinkMeaning {
     pub params: Vec<ParamMeaning>,
 }
 
-/// A table's list of link meanings; none if the table isn't good.
+/// A table's list of link meanings; none if the table isn't good in the edition.
 pub fn meanings(
+    edition: usize,
     text: &[u8],
     link_slots: &[usize],
     param_slots: &[usize],
     link_count: usize,
     param_count: usize,
 ) -> Option<Vec<LinkMeaning>> {
-    let links = good_links(text, link_slots, param_slots, link_count, param_count)?;
+    let links = good_links(
+        edition,
+        text,
+        link_slots,
+        param_slots,
+        link_count,
+        param_count,
+    )?;
     Some(links_meanings(text, &links))
 }
 

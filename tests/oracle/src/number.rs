@@ -21,6 +21,8 @@ pub const NO_OUTPUT_ROOM: usize = 7;
 pub const NO_SUCH_LINK: usize = 8;
 /// No such parameter, or no link has the relation.
 pub const NOT_FOUND: usize = 9;
+/// The number of the edition is none of theirs.
+pub const UNKNOWN_EDITION: usize = 10;
 
 /// The most octets that a header, a text or a written form may have, and the
 /// least of a buffer that gathers a header.

@@ -10,6 +10,11 @@ pub fn token(octet: u8) -> bool {
     octet.is_ascii_alphanumeric() || b"!#$%&'*+-.^_`|~".contains(&octet)
 }
 
+/// An octet that the older edition allows in bare values beside those of tokens.
+pub fn further(octet: u8) -> bool {
+    b"()/:<=>?@[]{}".contains(&octet)
+}
+
 /// A plain octet of a quoted string.
 pub fn plain(octet: u8) -> bool {
     matches!(octet, 9 | 32 | 33 | 35..=91 | 93..=126 | 128..=255)

@@ -1,12 +1,13 @@
 //! The place of a malformed header, from the grammar.
 
-use crate::grammar::{Rule, FIELD};
+use crate::edition::Edition;
+use crate::grammar::{field, Rule};
 use crate::sets::{after, Places};
 
 /// How many octets stand in the longest prefix of the header that begins some
-/// derivable header.
-pub fn place(header: &[u8]) -> usize {
-    last_cut(&FIELD, header, &Places::from([0])).unwrap_or(0)
+/// header that is derivable in the edition.
+pub fn place(edition: Edition, header: &[u8]) -> usize {
+    last_cut(field(edition), header, &Places::from([0])).unwrap_or(0)
 }
 
 /// A cut `k` can be completed from start `i` if the octets from `i` up to `k`

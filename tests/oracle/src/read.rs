@@ -1,5 +1,6 @@
 //! Reading a header into lent tables.
 
+use crate::edition::Edition;
 use crate::number::{DONE, LIMIT, MALFORMED, NO_LINK_ROOM, NO_PARAM_ROOM, TOO_LONG};
 use crate::prefix::place;
 use crate::reading::reading;
@@ -15,18 +16,27 @@ pub struct ReadAnswer {
 }
 
 /// Reads the header into the lent slots, which a refusal leaves as they are.
-/// Numbers in order: 1, 2, 3, 4.
-pub fn read(header: &[u8], link_slots: &mut [usize], param_slots: &mut [usize]) -> ReadAnswer {
+/// Numbers in order: 10, 1, 2, 3, 4.
+pub fn read(
+    edition: usize,
+    header: &[u8],
+    link_slots: &mut [usize],
+    param_slots: &mut [usize],
+) -> ReadAnswer {
     let refusal = |number| ReadAnswer {
         number,
         ..ReadAnswer::default()
     };
+    let edition = match Edition::of(edition) {
+        Ok(edition) => edition,
+        Err(number) => return refusal(number),
+    };
     if header.len() > LIMIT {
         return refusal(TOO_LONG);
     }
-    let Some(links) = reading(header) else {
+    let Some(links) = reading(edition, header) else {
         return ReadAnswer {
-            place: place(header),
+            place: place(edition, header),
             ..refusal(MALFORMED)
         };
     };

@@ -1,16 +1,18 @@
 //! The reading of a header: the records that a derivation of it gives.
 
 use crate::derivation::{derivation, Node};
-use crate::grammar::{Label, FIELD};
+use crate::edition::Edition;
+use crate::grammar::{field, Label};
 use crate::kept::kept;
 use crate::record::{Form, Link, Param, Span};
 use crate::sets::derives;
 
-/// The links of the header with their kept parameters; none if the grammar
-/// doesn't derive the header.
-pub fn reading(header: &[u8]) -> Option<Vec<Link>> {
-    derives(&FIELD, header).then(|| {
-        let field = derivation(&FIELD, header, Span::whole(header));
+/// The links of the header with their kept parameters; none if the edition's
+/// grammar doesn't derive the header.
+pub fn reading(edition: Edition, header: &[u8]) -> Option<Vec<Link>> {
+    let rule = field(edition);
+    derives(rule, header).then(|| {
+        let field = derivation(rule, header, Span::whole(header));
         links(header, &field)
     })
 }
@@ -30,13 +32,15 @@ pub fn links(header: &[u8], field: &[Node]) -> Vec<Link> {
 
 fn param(parameter: &Node) -> Param {
     let name = only(&parameter.parts, Label::Name).expect("a parameter has a name");
-    let token = only(&parameter.parts, Label::Token).map(|value| (value, Form::Token));
-    let quoted = only(&parameter.parts, Label::Quoted).map(|value| (value, Form::Quoted));
-    let nothing = Span {
-        start: name.end,
-        end: name.end,
-    };
-    let (value, form) = token.or(quoted).unwrap_or((nothing, Form::NoValue));
+    let (start, end) = (name.end, name.end);
+    let (value, form) = [
+        (Label::Token, Form::Token),
+        (Label::Quoted, Form::Quoted),
+        (Label::Further, Form::Further),
+    ]
+    .into_iter()
+    .find_map(|(label, form)| Some((only(&parameter.parts, label)?, form)))
+    .unwrap_or((Span { start, end }, Form::NoValue));
     Param { name, value, form }
 }
 

@@ -34,6 +34,8 @@ pub enum Form {
     NoValue,
     Token,
     Quoted,
+    /// Bare, with an octet that no token has.
+    Further,
 }
 
 #[derive(Clone, Copy, Debug, PartialEq, Eq)]
@@ -73,6 +75,7 @@ pub fn param_records(links: &[Link]) -> Vec<[usize; 5]> {
                 Form::NoValue => 0,
                 Form::Token => 1,
                 Form::Quoted => 2,
+                Form::Further => 3,
             };
             [name.start, name.end, value.start, value.end, form]
         })
@@ -81,7 +84,7 @@ pub fn param_records(links: &[Link]) -> Vec<[usize; 5]> {
 
 /// The links that the slots hold; none if the counts don't fit the rooms, the
 /// links' parameters don't follow on each other up to the parameter count, or
-/// a form is none of the three.
+/// a form is none of the four.
 pub fn links_of_slots(
     link_slots: &[usize],
     param_slots: &[usize],
@@ -121,6 +124,7 @@ fn param_of_record(record: &[usize; 5]) -> Option<Param> {
             0 => Form::NoValue,
             1 => Form::Token,
             2 => Form::Quoted,
+            3 => Form::Further,
             _ => return None,
         },
     })

@@ -6,8 +6,9 @@ use crate::number::{DONE, NOT_FOUND};
 use crate::table::asked_links;
 
 /// The number, and the lowest link number that has the relation. An empty
-/// query, or one with an SP, is no link's relation. Numbers in order: 1, 5, 9.
+/// query, or one with an SP, is no link's relation. Numbers in order: 10, 1, 5, 9.
 pub fn search(
+    edition: usize,
     text: &[u8],
     link_slots: &[usize],
     param_slots: &[usize],
@@ -15,7 +16,14 @@ pub fn search(
     param_count: usize,
     relation: &[u8],
 ) -> (usize, usize) {
-    let links = match asked_links(text, link_slots, param_slots, link_count, param_count) {
+    let links = match asked_links(
+        edition,
+        text,
+        link_slots,
+        param_slots,
+        link_count,
+        param_count,
+    ) {
         Ok(links) => links,
         Err(number) => return (number, 0),
     };

@@ -68,17 +68,20 @@ fn closure(places: &Places, step: impl Fn(&Places) -> Places) -> Places {
 #[cfg(test)]
 mod tests {
     use super::*;
-    use crate::grammar::FIELD;
+    use crate::edition::Edition;
+    use crate::grammar::field;
 
     #[test]
     fn both_directions_tell_the_same_relation() {
-        let text = br#" <a%2f>;x = "\"," ; y,, <b> "#;
-        for start in 0..=text.len() {
-            for end in 0..=text.len() {
-                assert_eq!(
-                    after(&FIELD, text, &Places::from([start])).contains(&end),
-                    before(&FIELD, text, &Places::from([end])).contains(&start),
-                );
+        let text = br#" <a%2f>;x = "\"," ; y;z=/<c>,, <b> "#;
+        for field in [Edition::Rfc8288, Edition::Rfc5988].map(field) {
+            for start in 0..=text.len() {
+                for end in 0..=text.len() {
+                    assert_eq!(
+                        after(field, text, &Places::from([start])).contains(&end),
+                        before(field, text, &Places::from([end])).contains(&start),
+                    );
+                }
             }
         }
     }

@@ -6,9 +6,10 @@ use crate::output::put;
 use crate::table::asked_links;
 
 /// Writes the meaning of the value of the parameter at that place within the
-/// link, and answers number and length. Numbers in order: 1, 5, 8, 9, 7.
+/// link, and answers number and length. Numbers in order: 10, 1, 5, 8, 9, 7.
 #[expect(clippy::too_many_arguments)]
 pub fn value(
+    edition: usize,
     text: &[u8],
     link_slots: &[usize],
     param_slots: &[usize],
@@ -18,7 +19,14 @@ pub fn value(
     place: usize,
     out: &mut [u8],
 ) -> (usize, usize) {
-    let links = asked_links(text, link_slots, param_slots, link_count, param_count);
+    let links = asked_links(
+        edition,
+        text,
+        link_slots,
+        param_slots,
+        link_count,
+        param_count,
+    );
     let meaning = links.and_then(|links| {
         let meanings = links_meanings(text, &links);
         let link = meanings.get(link).ok_or(NO_SUCH_LINK)?;

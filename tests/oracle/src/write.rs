@@ -8,8 +8,9 @@ use crate::sets::derives;
 use crate::table::asked_links;
 
 /// Writes the table's written form and answers number and length.
-/// Numbers in order: 1 (text), 5, 6, 1 (form), 7.
+/// Numbers in order: 10, 1 (text), 5, 6, 1 (form), 7.
 pub fn write(
+    edition: usize,
     text: &[u8],
     link_slots: &[usize],
     param_slots: &[usize],
@@ -17,7 +18,14 @@ pub fn write(
     param_count: usize,
     out: &mut [u8],
 ) -> (usize, usize) {
-    let links = asked_links(text, link_slots, param_slots, link_count, param_count);
+    let links = asked_links(
+        edition,
+        text,
+        link_slots,
+        param_slots,
+        link_count,
+        param_count,
+    );
     let form = links.and_then(|links| {
         let meanings = links_meanings(text, &links);
         if meanings.iter().any(|link| link.relations().is_empty()) {

@@ -1,7 +1,7 @@
 //! A header in parts: what each feed and the finish answer, and what the
 //! buffer then holds.
 
-use crate::{read_amply, read_in, refusal, HELD, HELD_OCTET};
+use crate::{read_amply, read_in, refusal, EDITIONS, HELD, HELD_OCTET};
 use oracle::{Feeding, ReadAnswer};
 
 /// A feeding with its buffer.
@@ -12,8 +12,12 @@ struct Fed {
 
 impl Fed {
     fn new() -> Fed {
+        Fed::start(0)
+    }
+
+    fn start(edition: usize) -> Fed {
         Fed {
-            feeding: Feeding::default(),
+            feeding: Feeding::start(edition),
             buffer: vec![HELD_OCTET; 9000],
         }
     }
@@ -136,7 +140,7 @@ fn a_small_buffer_is_refused_first_and_its_part_does_not_count() {
         }
     }
     let mut exact = [HELD_OCTET; 8192];
-    assert_eq!(Feeding::default().feed(b"<", &mut exact), (0, 0));
+    assert_eq!(Feeding::start(0).feed(b"<", &mut exact), (0, 0));
 }
 
 #[test]
@@ -145,17 +149,54 @@ fn every_cut_finishes_as_the_whole_is_read() {
         &br#" <a%4f> ; x = "\"y" ; z ,, <b>;rel=c "#[..],
         b"<a>;rel=next;",
         b"<a>, <b> <c>",
+        b"<a>;rel=/b, <c>; x = ==<d>;y/z",
     ] {
-        for cut in 0..=header.len() {
-            let (first, second) = header.split_at(cut);
-            let mut fed = Fed::of(first);
-            fed.feed(second);
-            assert_eq!(fed.finish(), read_amply(header).0);
-            for (links, params) in [(0, 9), (9, 0), (1, 1), (2, 3)] {
-                let mut slots = (vec![HELD; 4 * links], vec![HELD; 5 * params]);
-                let answer = fed.finish_in(&mut slots.0, &mut slots.1);
-                assert_eq!(answer, read_in(header, links, params).0);
-            }
+        for edition in EDITIONS {
+            every_cut_finishes_so(edition, header);
         }
+    }
+}
+
+fn every_cut_finishes_so(edition: usize, header: &[u8]) {
+    for cut in 0..=header.len() {
+        let (first, second) = header.split_at(cut);
+        let mut fed = Fed::start(edition);
+        fed.feed(first);
+        fed.feed(second);
+        assert_eq!(fed.finish(), read_amply(edition, header).0);
+        for (links, params) in [(0, 9), (9, 0), (1, 1), (2, 3)] {
+            let mut slots = (vec![HELD; 4 * links], vec![HELD; 5 * params]);
+            let answer = fed.finish_in(&mut slots.0, &mut slots.1);
+            assert_eq!(answer, read_in(edition, header, links, params).0);
+        }
+    }
+}
+
+#[test]
+fn the_older_edition_is_kept_through_the_feeds() {
+    let mut fed = Fed::start(1);
+    for part in ["<a>;rel=", "b", "/", "", "<c", ">,<", "d>"] {
+        assert_eq!(fed.feed(part.as_bytes()), (0, 0));
+    }
+    assert!(fed.holds(b"<a>;rel=b/<c>,<d>"));
+    let (mut links, mut params) = ([HELD; 8], [HELD; 5]);
+    let answer = fed.finish_in(&mut links, &mut params);
+    assert_eq!((answer.number, answer.links, answer.params), (0, 2, 1));
+    assert_eq!(params, [4, 7, 8, 13, 3]);
+    assert_eq!(Fed::of(b"<a>;rel=b").feed(b"/"), (2, 9));
+}
+
+#[test]
+fn an_unknown_edition_is_refused_first_and_its_parts_do_not_count() {
+    for edition in [2, 3, usize::MAX] {
+        let mut fed = Fed::start(edition);
+        for part in [&b"<a>"[..], b"", b"x", &[b' '; 9000]] {
+            assert_eq!(fed.feed(part), (10, 0));
+            assert_eq!(fed.feed_in(part, 0), (10, 0));
+            assert_eq!(fed.finish(), refusal(10, 0));
+            let answer = fed.feeding.finish(&[0; 8191], &mut [], &mut []);
+            assert_eq!(answer, refusal(10, 0));
+        }
+        assert!(fed.holds(b""));
     }
 }

@@ -1,6 +1,7 @@
 //! Laws, run over many small headers.
 
-use crate::{read_amply, read_in, Tables};
+use crate::editions::FURTHER;
+use crate::{read_amply, read_in, Tables, EDITIONS};
 use oracle::number::MALFORMED;
 use oracle::{Feeding, ReadAnswer};
 
@@ -18,7 +19,7 @@ impl Numbers {
 
     /// A header put together from pieces that often fit.
     fn header(&mut self) -> Vec<u8> {
-        const PIECES: [&str; 18] = [
+        const PIECES: [&str; 22] = [
             "<a>",
             "<>",
             "<b,c;%41>",
@@ -30,6 +31,10 @@ impl Numbers {
             ";title*=t",
             ";hreflang",
             ";w=\"\\\",\"",
+            ";rel=b/",
+            ";v=<",
+            "=(",
+            ":",
             ",",
             " , ",
             " ",
@@ -45,10 +50,10 @@ impl Numbers {
         pieces.concat().into_bytes()
     }
 
-    fn accepted(&mut self) -> (Vec<u8>, ReadAnswer, Tables) {
+    fn accepted(&mut self, edition: usize) -> (Vec<u8>, ReadAnswer, Tables) {
         loop {
             let header = self.header();
-            let (answer, tables) = read_amply(&header);
+            let (answer, tables) = read_amply(edition, &header);
             if answer.number == 0 {
                 return (header, answer, tables);
             }
@@ -56,16 +61,16 @@ impl Numbers {
     }
 }
 
-fn derivable(header: &[u8]) -> bool {
-    oracle::read(header, &mut [], &mut []).number != MALFORMED
+fn derivable(edition: usize, header: &[u8]) -> bool {
+    oracle::read(edition, header, &mut [], &mut []).number != MALFORMED
 }
 
 /// Whether the prefix begins a derivable header. What is open at its end can
 /// be closed by at most three octets of these four.
-fn begins_a_header(prefix: &[u8]) -> bool {
+fn begins_a_header(edition: usize, prefix: &[u8]) -> bool {
     let mut headers = vec![prefix.to_vec()];
     for _ in 0..4 {
-        if headers.iter().any(|header| derivable(header)) {
+        if headers.iter().any(|header| derivable(edition, header)) {
             return true;
         }
         let longer = |header: &Vec<u8>| b"0>x\"".map(|octet| [&header[..], &[octet]].concat());
@@ -80,22 +85,24 @@ fn the_place_is_the_longest_prefix_that_begins_a_header() {
     // enough to look at.
     let mut numbers = Numbers(1);
     let mut malformed = 0;
-    while malformed < 1500 {
+    while malformed < 2000 {
+        let edition = numbers.below(2);
         let mut header = numbers.header();
         if numbers.below(3) == 0 {
             let at = numbers.below(header.len() + 1);
             header.insert(at, numbers.below(256) as u8);
         }
-        let (answer, _) = read_amply(&header);
+        let (answer, _) = read_amply(edition, &header);
         if answer.number == 0 {
             continue;
         }
         malformed += 1;
         let place = answer.place;
         assert_eq!(answer.number, MALFORMED);
-        assert!(begins_a_header(&header[..place]), "{header:?}");
+        assert!(begins_a_header(edition, &header[..place]), "{header:?}");
         let longer = header.get(..place + 1);
-        assert!(!longer.is_some_and(begins_a_header), "{header:?}");
+        let begins = longer.is_some_and(|longer| begins_a_header(edition, longer));
+        assert!(!begins, "{header:?}");
     }
 }
 
@@ -103,13 +110,14 @@ fn the_place_is_the_longest_prefix_that_begins_a_header() {
 fn a_feed_is_done_exactly_if_its_octets_begin_a_header() {
     let mut numbers = Numbers(4);
     let mut buffer = vec![0; 8192];
-    for _ in 0..1000 {
+    for _ in 0..2000 {
+        let edition = numbers.below(2);
         let header = numbers.header();
         let cut = numbers.below(header.len() + 1);
-        let mut feeding = Feeding::default();
+        let mut feeding = Feeding::start(edition);
         for (part, fed) in [(&header[..cut], cut), (&header[cut..], header.len())] {
             let (number, _) = feeding.feed(part, &mut buffer);
-            let begins = begins_a_header(&header[..fed]);
+            let begins = begins_a_header(edition, &header[..fed]);
             assert_eq!(number, if begins { 0 } else { MALFORMED }, "{header:?}");
         }
     }
@@ -117,24 +125,28 @@ fn a_feed_is_done_exactly_if_its_octets_begin_a_header() {
 
 #[test]
 fn every_cut_of_an_accepted_header_has_its_own_length_as_place() {
-    let header = br#" <a%4f> ; x = "\"y" ; z ,, <b>;rel=c "#;
-    assert!(derivable(header));
-    for cut in 0..header.len() {
-        let (answer, _) = read_amply(&header[..cut]);
-        let place = if answer.number == 0 { 0 } else { cut };
-        assert_eq!(answer.place, place);
+    let newer = br#" <a%4f> ; x = "\"y" ; z ,, <b>;rel=c "#;
+    let older = b"<a>;x==<b>;y = (/),<c>;rel=d:e";
+    for (edition, header) in [(0, &newer[..]), (1, newer), (1, older)] {
+        assert!(derivable(edition, header));
+        for cut in 0..header.len() {
+            let (answer, _) = read_amply(edition, &header[..cut]);
+            let place = if answer.number == 0 { 0 } else { cut };
+            assert_eq!(answer.place, place);
+        }
     }
 }
 
 #[test]
 fn a_join_reads_as_its_headers() {
     let mut numbers = Numbers(2);
-    for _ in 0..1000 {
+    for _ in 0..2000 {
+        let edition = numbers.below(2);
         let mut join = vec![];
         let mut links = vec![];
         let mut params = vec![];
         for place in 0..numbers.below(5) {
-            let (header, _, tables) = numbers.accepted();
+            let (header, _, tables) = numbers.accepted(edition);
             if place > 0 {
                 join.push(b',');
             }
@@ -149,7 +161,7 @@ fn a_join_reads_as_its_headers() {
             join.extend(header);
             join.extend(vec![b'\t'; numbers.below(3)]);
         }
-        let (answer, tables) = read_in(&join, links.len(), params.len());
+        let (answer, tables) = read_in(edition, &join, links.len(), params.len());
         assert_eq!(answer.number, 0);
         assert_eq!(tables.link_slots, links.concat());
         assert_eq!(tables.param_slots, params.concat());
@@ -157,18 +169,53 @@ fn a_join_reads_as_its_headers() {
 }
 
 #[test]
-fn what_is_written_reads_back() {
+fn what_is_written_reads_back_in_each_edition() {
     let mut numbers = Numbers(3);
     let mut written = 0;
-    while written < 1000 {
-        let (_, answer, tables) = numbers.accepted();
+    while written < 2000 {
+        let edition = numbers.below(2);
+        let (_, answer, tables) = numbers.accepted(edition);
         let Ok(form) = tables.write(8192) else {
             continue;
         };
         written += 1;
-        let (again, back) = read_in(&form, answer.links, answer.params);
-        assert_eq!(again, answer);
-        assert_eq!(back.meanings(), tables.meanings());
-        assert_eq!(back.write(form.len()), Ok(form));
+        for edition in EDITIONS {
+            let (again, back) = read_in(edition, &form, answer.links, answer.params);
+            assert_eq!(again, answer);
+            assert_eq!(back.meanings(), tables.meanings());
+            assert_eq!(back.write(form.len()).as_ref(), Ok(&form));
+        }
+    }
+}
+
+#[test]
+fn the_older_edition_reads_the_same_of_what_the_newer_accepts() {
+    let mut numbers = Numbers(5);
+    for _ in 0..2000 {
+        let (header, answer, tables) = numbers.accepted(0);
+        let (older_answer, older) = read_amply(1, &header);
+        assert_eq!(older_answer, answer);
+        assert_eq!(older.link_slots, tables.link_slots);
+        assert_eq!(older.param_slots, tables.param_slots);
+        assert_eq!(older.meanings(), tables.meanings());
+    }
+}
+
+#[test]
+fn only_behind_an_octet_that_it_adds_does_the_older_edition_answer_otherwise() {
+    let mut numbers = Numbers(6);
+    let mut added = 0;
+    while added < 500 {
+        let mut header = numbers.header();
+        let at = numbers.below(header.len() + 1);
+        header.insert(at, numbers.below(256) as u8);
+        let [newer, older] = EDITIONS.map(|edition| read_amply(edition, &header).0);
+        let octet = header.get(newer.place);
+        if newer.number == MALFORMED && octet.is_some_and(|octet| FURTHER.contains(octet)) {
+            added += 1;
+            assert!(older.number == 0 || older.place >= newer.place);
+        } else {
+            assert_eq!(older, newer, "{header:?}");
+        }
     }
 }

@@ -10,12 +10,12 @@ fn a_header_of_8192_is_judged_and_one_of_8193_is_not() {
         assert_eq!(accepted(&vec![b' '; length]).link_count, 0);
         assert_eq!(accepted(&vec![b','; length]).link_count, 0);
         let cut = [b"<", &vec![b'a'; length - 1][..]].concat();
-        assert_eq!(read_amply(&cut).0, refusal(2, length));
+        assert_eq!(read_amply(0, &cut).0, refusal(2, length));
         let stray = [&vec![b','; length - 1][..], b"x"].concat();
-        assert_eq!(read_amply(&stray).0, refusal(2, length - 1));
+        assert_eq!(read_amply(0, &stray).0, refusal(2, length - 1));
     }
     for octet in [b' ', b',', b'<', b'x', 0] {
-        assert_eq!(read_amply(&vec![octet; 8193]).0, refusal(1, 0));
+        assert_eq!(read_amply(0, &vec![octet; 8193]).0, refusal(1, 0));
     }
 }
 
@@ -33,28 +33,28 @@ fn the_most_links_and_parameters() {
 #[test]
 fn exact_rooms_are_enough_and_one_fewer_is_not() {
     let header = b"<a>;x;y,<b>;rel=c;rel=d;z";
-    let (answer, _) = read_in(header, 2, 4);
+    let (answer, _) = read_in(0, header, 2, 4);
     assert_eq!((answer.number, answer.links, answer.params), (0, 2, 4));
-    assert_eq!(read_in(header, 1, 4).0, refusal(3, 0));
-    assert_eq!(read_in(header, 2, 3).0, refusal(4, 0));
-    assert_eq!(read_in(header, 1, 3).0, refusal(3, 0));
-    assert_eq!(read_in(b"<a>;x;", 0, 0).0, refusal(2, 6));
-    assert_eq!(read_in(b",", 0, 0).0.number, 0);
-    assert_eq!(read_in(b"<a>", 1, 0).0.number, 0);
+    assert_eq!(read_in(0, header, 1, 4).0, refusal(3, 0));
+    assert_eq!(read_in(0, header, 2, 3).0, refusal(4, 0));
+    assert_eq!(read_in(0, header, 1, 3).0, refusal(3, 0));
+    assert_eq!(read_in(0, b"<a>;x;", 0, 0).0, refusal(2, 6));
+    assert_eq!(read_in(0, b",", 0, 0).0.number, 0);
+    assert_eq!(read_in(0, b"<a>", 1, 0).0.number, 0);
 }
 
 #[test]
 fn room_is_rounded_down() {
     assert_eq!(
-        oracle::read(b"<a>,<b>", &mut [0; 7], &mut []),
+        oracle::read(0, b"<a>,<b>", &mut [0; 7], &mut []),
         refusal(3, 0)
     );
     assert_eq!(
-        oracle::read(b"<a>;x;y", &mut [0; 4], &mut [0; 9]),
+        oracle::read(0, b"<a>;x;y", &mut [0; 4], &mut [0; 9]),
         refusal(4, 0)
     );
     assert_eq!(
-        oracle::read(b"<a>;x;y", &mut [0; 7], &mut [0; 14]).number,
+        oracle::read(0, b"<a>;x;y", &mut [0; 7], &mut [0; 14]).number,
         0
     );
 }

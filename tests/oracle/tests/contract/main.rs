@@ -2,6 +2,7 @@
 
 mod codes;
 mod comparisons;
+mod editions;
 mod feeds;
 mod laws;
 mod limits;
@@ -18,9 +19,13 @@ use oracle::ReadAnswer;
 const HELD: usize = 7777;
 const HELD_OCTET: u8 = 0xEE;
 
-/// A text with its tables and counts.
+/// The editions that there are.
+const EDITIONS: [usize; 2] = [0, 1];
+
+/// A text with its tables and counts, and the edition to ask them in.
 #[derive(Clone, Debug)]
 struct Tables {
+    edition: usize,
     text: Vec<u8>,
     link_slots: Vec<usize>,
     param_slots: Vec<usize>,
@@ -31,6 +36,7 @@ struct Tables {
 impl Tables {
     fn new(text: &[u8], links: &[[usize; 4]], params: &[[usize; 5]]) -> Tables {
         Tables {
+            edition: 0,
             text: text.to_vec(),
             link_slots: links.concat(),
             param_slots: params.concat(),
@@ -39,8 +45,16 @@ impl Tables {
         }
     }
 
+    fn in_edition(&self, edition: usize) -> Tables {
+        Tables {
+            edition,
+            ..self.clone()
+        }
+    }
+
     fn good(&self) -> bool {
         oracle::good(
+            self.edition,
             &self.text,
             &self.link_slots,
             &self.param_slots,
@@ -51,6 +65,7 @@ impl Tables {
 
     fn meanings(&self) -> Option<Vec<oracle::LinkMeaning>> {
         oracle::meanings(
+            self.edition,
             &self.text,
             &self.link_slots,
             &self.param_slots,
@@ -61,6 +76,7 @@ impl Tables {
 
     fn search(&self, relation: impl AsRef<[u8]>) -> (usize, usize) {
         oracle::search(
+            self.edition,
             &self.text,
             &self.link_slots,
             &self.param_slots,
@@ -72,6 +88,7 @@ impl Tables {
 
     fn context(&self, base: &[u8], link: usize) -> (usize, usize, usize, usize) {
         oracle::context(
+            self.edition,
             &self.text,
             base,
             &self.link_slots,
@@ -86,6 +103,7 @@ impl Tables {
     fn value(&self, link: usize, place: usize, room: usize) -> Result<Vec<u8>, usize> {
         let mut out = vec![HELD_OCTET; room];
         let answer = oracle::value(
+            self.edition,
             &self.text,
             &self.link_slots,
             &self.param_slots,
@@ -102,6 +120,7 @@ impl Tables {
     fn write(&self, room: usize) -> Result<Vec<u8>, usize> {
         let mut out = vec![HELD_OCTET; room];
         let answer = oracle::write(
+            self.edition,
             &self.text,
             &self.link_slots,
             &self.param_slots,
@@ -128,14 +147,20 @@ fn output((number, length): (usize, usize), mut out: Vec<u8>) -> Result<Vec<u8>,
 }
 
 /// Reads in the given room; slots past those used must hold what they held.
-fn read_in(header: &[u8], link_room: usize, param_room: usize) -> (ReadAnswer, Tables) {
+fn read_in(
+    edition: usize,
+    header: &[u8],
+    link_room: usize,
+    param_room: usize,
+) -> (ReadAnswer, Tables) {
     let mut link_slots = vec![HELD; link_room * 4];
     let mut param_slots = vec![HELD; param_room * 5];
-    let answer = oracle::read(header, &mut link_slots, &mut param_slots);
+    let answer = oracle::read(edition, header, &mut link_slots, &mut param_slots);
     let used = (answer.links * 4, answer.params * 5);
     assert!(link_slots[used.0..].iter().all(|&slot| slot == HELD));
     assert!(param_slots[used.1..].iter().all(|&slot| slot == HELD));
     let tables = Tables {
+        edition,
         text: header.to_vec(),
         link_slots: link_slots[..used.0].to_vec(),
         param_slots: param_slots[..used.1].to_vec(),
@@ -146,13 +171,17 @@ fn read_in(header: &[u8], link_room: usize, param_room: usize) -> (ReadAnswer, T
 }
 
 /// Reads in room for whatever a header of 8,192 octets may hold.
-fn read_amply(header: &[u8]) -> (ReadAnswer, Tables) {
-    read_in(header, 2731, 4096)
+fn read_amply(edition: usize, header: &[u8]) -> (ReadAnswer, Tables) {
+    read_in(edition, header, 2731, 4096)
 }
 
 /// The tables of a header that must be accepted.
 fn accepted(header: &[u8]) -> Tables {
-    let (answer, tables) = read_amply(header);
+    accepted_in(0, header)
+}
+
+fn accepted_in(edition: usize, header: &[u8]) -> Tables {
+    let (answer, tables) = read_amply(edition, header);
     assert_eq!((answer.number, answer.place), (0, 0), "{header:?}");
     assert!(tables.good());
     tables

@@ -10,7 +10,7 @@ fn assert_read(header: &str, links: &[[usize; 4]], params: &[[usize; 5]]) {
 }
 
 fn assert_malformed(header: &str, place: usize) {
-    let (answer, _) = read_amply(header.as_bytes());
+    let (answer, _) = read_amply(0, header.as_bytes());
     assert_eq!(answer, refusal(2, place), "{header}");
 }
 

@@ -1,7 +1,7 @@
 //! Good tables and hostile ones.
 
 use crate::codes::{Known, NAMES};
-use crate::{accepted, Tables};
+use crate::{accepted, Tables, EDITIONS};
 
 /// A good table over `a;b="\"c" %41` with spans that overlap and stand out of order.
 fn sample() -> Tables {
@@ -14,8 +14,9 @@ fn sample() -> Tables {
 
 /// Asserts that the sample with one slot set to any of the numbers isn't good.
 fn assert_bad(change: impl Fn(&mut Tables, usize), numbers: &[usize]) {
-    for &number in numbers {
-        let mut tables = sample();
+    let editions = |&number| EDITIONS.map(|edition| (edition, number));
+    for (edition, number) in numbers.iter().flat_map(editions) {
+        let mut tables = sample().in_edition(edition);
         change(&mut tables, number);
         assert!(!tables.good(), "{number}: {tables:?}");
         assert_eq!(tables.meanings(), None);
@@ -30,6 +31,7 @@ fn assert_bad(change: impl Fn(&mut Tables, usize), numbers: &[usize]) {
 fn a_good_table_need_not_come_from_reading() {
     let tables = sample();
     assert!(tables.good());
+    assert!(tables.in_edition(1).good());
     let meanings = tables.meanings().unwrap();
     assert_eq!(meanings[0].target, b"%41");
     assert_eq!(meanings[0].params[0].value, b"\"c");
@@ -91,7 +93,7 @@ fn every_slot_matters() {
     );
     assert_bad(
         |tables, number| tables.param_slots[4] = number,
-        &[0, 1, 3, MAX],
+        &[0, 1, 3, 4, MAX],
     );
     assert_bad(
         |tables, number| tables.param_slots[7] = number,
@@ -107,7 +109,7 @@ fn every_slot_matters() {
     );
     assert_bad(
         |tables, number| tables.param_slots[14] = number,
-        &[1, 3, MAX],
+        &[1, 3, 4, MAX],
     );
 }
 
