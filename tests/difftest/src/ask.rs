@@ -1,7 +1,9 @@
 //! Everything that can be asked of a table, at the edges of each question.
 
 use crate::codes;
-use crate::compare::{read, Asked, Compared};
+use crate::compare::{read, read_alike, Asked, Compared};
+use crate::generate::edition::{self, EDITIONS};
+use crate::reached::{Entry, In};
 use crate::run::Run;
 use crate::shown::{self, Difference};
 use crate::tables::Tables;
@@ -11,6 +13,17 @@ use oracle::LinkMeaning;
 
 /// Up to so many links, parameters and relations each one is asked for; of more, as many.
 const ASKED: usize = 4;
+
+/// Of so many tables one is asked in an unknown edition too.
+const UNKNOWN: usize = 4;
+
+/// Asks a table, good or bad, in each edition, whichever it was made or read in.
+pub fn ask_in_each(run: &mut Run, tables: &Tables) -> Compared<()> {
+    for edition in EDITIONS {
+        ask(run, &tables.in_edition(edition))?;
+    }
+    Ok(())
+}
 
 /// Asks a table, good or bad, in all ways, and reads back what is written.
 pub fn ask(run: &mut Run, tables: &Tables) -> Compared<()> {
@@ -22,13 +35,39 @@ pub fn ask(run: &mut Run, tables: &Tables) -> Compared<()> {
     values(run, &asked, links)?;
     let form = writes(run, &asked)?;
     asked.unchanged()?;
+    if run.numbers.once_in(UNKNOWN) {
+        unknown(run, tables)?;
+    }
     view::compare(tables, meanings.as_deref())?;
     if meanings.is_some() {
         codes::compare(run, tables)?;
+        forms(run, tables);
     }
     match form {
         Some(form) => read_back(run, tables, links, &form),
         None => Ok(()),
+    }
+}
+
+/// Asks in an unknown edition.
+fn unknown(run: &mut Run, tables: &Tables) -> Compared<()> {
+    let edition = edition::unknown(&mut run.numbers);
+    let tables = tables.in_edition(edition);
+    let asked = Asked::new(run, &tables);
+    let (link, room) = (run.numbers.below(3), run.numbers.below(40));
+    asked.search(run, b"next")?;
+    asked.context(run, b"http://base/", link)?;
+    asked.value(run, link, 0, room)?;
+    asked.write(run, room)?;
+    asked.unchanged()
+}
+
+/// Counts the forms of a good table's values.
+fn forms(run: &mut Run, tables: &Tables) {
+    let params = &tables.params.as_chunks().0[..tables.param_count];
+    for &[_, _, _, _, form] in params {
+        let edition = In::of(tables.edition);
+        run.reached.count_in(edition, Entry::Form, form);
     }
 }
 
@@ -105,23 +144,27 @@ fn writes(run: &mut Run, asked: &Asked) -> Compared<Option<Vec<u8>>> {
     Ok(Some(form))
 }
 
-/// What was written, read in just the room for the table's counts, has its counts and meanings.
+/// What was written, read in just the room for the table's counts, has its counts and meanings, and
+/// the same records in each edition.
 fn read_back(run: &mut Run, tables: &Tables, links: &[LinkMeaning], form: &[u8]) -> Compared<()> {
     let (link_count, param_count) = (tables.link_count, tables.param_count);
-    let (answer, back) = read(run, form, 4 * link_count, 5 * param_count)?;
+    let (answer, back) = read(run, tables.edition, form, 4 * link_count, 5 * param_count)?;
     let counts = (answer.number, answer.links, answer.params);
     let same = counts == (0, link_count, param_count) && back.meanings().as_deref() == Some(links);
     run.also("read-back");
-    if same {
-        return Ok(());
+    if !same {
+        return Err(Difference {
+            asked: format!(
+                "read back {}, written of {}",
+                shown::octets(form),
+                shown::table(tables)
+            ),
+            library: format!("{answer:?}, meanings {:?}", back.meanings()),
+            expected: format!("{link_count} links, {param_count} parameters, meanings {links:?}"),
+        });
     }
-    Err(Difference {
-        asked: format!(
-            "read back {}, written of {}",
-            shown::octets(form),
-            shown::table(tables.raw())
-        ),
-        library: format!("{answer:?}, meanings {:?}", back.meanings()),
-        expected: format!("{link_count} links, {param_count} parameters, meanings {links:?}"),
-    })
+    for edition in EDITIONS {
+        read_alike(run, edition, answer, &back)?;
+    }
+    Ok(())
 }

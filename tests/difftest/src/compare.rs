@@ -15,7 +15,7 @@ pub use code::{name_code, name_code_of};
 pub use equal::equal;
 pub use feed::{Expected, Fed};
 pub use frame::{feed_any, finish_any};
-pub use read::read;
+pub use read::{read, read_alike};
 pub use reading::Reading;
 pub use texts::{compare_texts, compare_texts_of};
 

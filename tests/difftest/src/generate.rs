@@ -1,6 +1,7 @@
 //! Cases made from numbers.
 
 pub mod case;
+pub mod edition;
 pub mod header;
 pub mod octets;
 pub mod spans;

@@ -17,6 +17,8 @@ mod valid;
 mod wild;
 
 use crate::compare::{read, Compared};
+use crate::editions::read_in_each;
+use crate::generate::edition;
 use crate::run::Run;
 use crate::tables::Tables;
 use oracle::ReadAnswer;
@@ -52,17 +54,26 @@ fn ample(length: usize) -> [usize; 2] {
 }
 
 /// Reads in room for whatever a header of this length may hold.
-fn read_amply(run: &mut Run, header: &[u8]) -> Compared<(ReadAnswer, Tables)> {
+fn read_amply(run: &mut Run, edition: usize, header: &[u8]) -> Compared<(ReadAnswer, Tables)> {
     let [link_slots, param_slots] = ample(header.len());
-    read(run, header, link_slots, param_slots)
+    read(run, edition, header, link_slots, param_slots)
 }
 
-/// Reads in ample room, and asks what was read.
-fn read_and_ask(run: &mut Run, header: &[u8]) -> Compared<ReadAnswer> {
+/// Of so many headers one is read in an unknown edition too.
+const UNKNOWN: usize = 8;
+
+/// Reads in ample room in each edition, and asks what was read.
+fn read_and_ask(run: &mut Run, header: &[u8]) -> Compared<()> {
     run.case();
-    let (answer, tables) = read_amply(run, header)?;
-    if answer.number == 0 {
-        crate::ask::ask(run, &tables)?;
+    for (answer, tables) in read_in_each(run, header, ample(header.len()))? {
+        if answer.number == 0 {
+            crate::ask::ask(run, &tables)?;
+        }
     }
-    Ok(answer)
+    if !run.numbers.once_in(UNKNOWN) {
+        return Ok(());
+    }
+    let unknown = edition::unknown(&mut run.numbers);
+    let [link_slots, param_slots] = [run.numbers.below(9), run.numbers.below(9)];
+    read(run, unknown, header, link_slots, param_slots).map(drop)
 }

@@ -8,6 +8,7 @@ mod args;
 mod ask;
 mod codes;
 mod compare;
+mod editions;
 mod generate;
 mod kinds;
 mod lent;

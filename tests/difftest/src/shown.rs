@@ -1,5 +1,6 @@
 //! How inputs and answers are printed where they differ.
 
+use crate::tables::Tables;
 use capstanbar::ffi::RawTable;
 use std::fmt::{self, Display, Formatter};
 
@@ -8,8 +9,13 @@ pub fn octets(octets: &[u8]) -> String {
     format!("\"{}\"", octets.escape_ascii())
 }
 
+/// A table with its edition.
+pub fn table(table: &Tables) -> String {
+    format!("edition {}, {}", table.edition, raw_table(table.raw()))
+}
+
 /// A table with the slots that its counts reach.
-pub fn table(table: RawTable) -> String {
+pub fn raw_table(table: RawTable) -> String {
     format!(
         "text {}, link slots {}, parameter slots {}, counts {} {}",
         octets(table.text),

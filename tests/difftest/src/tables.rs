@@ -1,10 +1,11 @@
-//! A text with its tables and counts.
+//! A text with its tables and counts, and the edition that they are asked in.
 
 use crate::lent::Lent;
 use capstanbar::ffi::RawTable;
 
 #[derive(Clone)]
 pub struct Tables {
+    pub edition: usize,
     pub text: Vec<u8>,
     pub links: Vec<usize>,
     pub params: Vec<usize>,
@@ -13,13 +14,27 @@ pub struct Tables {
 }
 
 impl Tables {
-    pub fn new(text: Vec<u8>, links: &[[usize; 4]], params: &[[usize; 5]]) -> Tables {
+    pub fn new(
+        edition: usize,
+        text: Vec<u8>,
+        links: &[[usize; 4]],
+        params: &[[usize; 5]],
+    ) -> Tables {
         Tables {
+            edition,
             text,
             links: links.concat(),
             params: params.concat(),
             link_count: links.len(),
             param_count: params.len(),
+        }
+    }
+
+    /// The same ones, asked in that edition.
+    pub fn in_edition(&self, edition: usize) -> Tables {
+        Tables {
+            edition,
+            ..self.clone()
         }
     }
 
@@ -35,6 +50,7 @@ impl Tables {
 
     pub fn meanings(&self) -> Option<Vec<oracle::LinkMeaning>> {
         oracle::meanings(
+            self.edition,
             &self.text,
             &self.links,
             &self.params,

@@ -3,13 +3,14 @@
 mod lookups;
 
 use crate::compare::{equal, Compared};
+use crate::generate::edition::NEWER;
 use crate::shown::{self, Difference};
 use crate::tables::Tables;
-use capstanbar::{Counts, Table};
+use capstanbar::{Counts, Edition, Table};
 use oracle::LinkMeaning;
 
-/// The view is there exactly of good tables of texts that aren't too long, hands out the records'
-/// octets, and finds parameters by their names.
+/// The view is there exactly of tables that are good in their edition, of texts that aren't too long;
+/// it hands out the records' octets, and finds parameters by their names.
 pub fn compare(tables: &Tables, meanings: Option<&[LinkMeaning]>) -> Compared<()> {
     let counts = Counts {
         links: tables.link_count,
@@ -20,12 +21,16 @@ pub fn compare(tables: &Tables, meanings: Option<&[LinkMeaning]>) -> Compared<()
         None => Err(5),
         Some(links) => Ok(links.to_vec()),
     };
-    let table = Table::new(&tables.text, &tables.links, &tables.params, counts);
+    let edition = match tables.edition {
+        NEWER => Edition::Rfc8288,
+        _ => Edition::Rfc5988,
+    };
+    let table = Table::new_in(edition, &tables.text, &tables.links, &tables.params, counts);
     let seen = match table {
         Ok(table) => Ok(table.links().map(meaning).collect::<Vec<_>>()),
         Err(refusal) => Err(refusal.number()),
     };
-    let view = || format!("view of {}", shown::table(tables.raw()));
+    let view = || format!("view of {}", shown::table(tables));
     equal(view, &seen, &expected)?;
     let (Ok(table), Ok(meanings)) = (table, expected) else {
         return Ok(());

@@ -2,8 +2,9 @@
 
 use super::equal::{equal, equal_rooms};
 use super::Compared;
+use crate::generate::edition::NEWER;
 use crate::lent::Lent;
-use crate::reached::{Entry, FORM_TOO_LONG};
+use crate::reached::{Entry, In, FORM_TOO_LONG};
 use crate::run::Run;
 use crate::shown::{self, Difference};
 use crate::tables::{LentTables, Tables};
@@ -25,20 +26,24 @@ impl<'t> Asked<'t> {
     pub fn search(&self, run: &mut Run, relation: &[u8]) -> Compared<usize> {
         let asked = || {
             let relation = shown::octets(relation);
-            format!("search {relation} in {}", shown::table(self.tables.raw()))
+            format!("search {relation} in {}", shown::table(self.tables))
         };
         let query = Lent::holding(relation, run.salt());
-        let answer = ffi::search(self.lent.raw(), query.room());
         let t = self.tables;
-        let expected = oracle::search(
-            &t.text,
-            &t.links,
-            &t.params,
-            t.link_count,
-            t.param_count,
-            relation,
-        );
-        run.reached.count(Entry::Search, answer.number);
+        let answer = ffi::search(t.edition, self.lent.raw(), query.room());
+        let reference = |edition| {
+            oracle::search(
+                edition,
+                &t.text,
+                &t.links,
+                &t.params,
+                t.link_count,
+                t.param_count,
+                relation,
+            )
+        };
+        let expected = reference(t.edition);
+        self.count(run, Entry::Search, answer.number, || reference(NEWER).0);
         equal(asked, (answer.number, answer.link), expected)?;
         equal_rooms(asked, "relation", &query, relation)?;
         Ok(answer.number)
@@ -47,22 +52,26 @@ impl<'t> Asked<'t> {
     /// The number of asking for a context.
     pub fn context(&self, run: &mut Run, base: &[u8], link: usize) -> Compared<usize> {
         let asked = || {
-            let (base, table) = (shown::octets(base), shown::table(self.tables.raw()));
+            let (base, table) = (shown::octets(base), shown::table(self.tables));
             format!("context of link {link}, base {base}, in {table}")
         };
         let lent = Lent::holding(base, run.salt());
-        let answer = ffi::context(self.lent.raw(), lent.room(), link);
         let t = self.tables;
-        let expected = oracle::context(
-            &t.text,
-            base,
-            &t.links,
-            &t.params,
-            t.link_count,
-            t.param_count,
-            link,
-        );
-        run.reached.count(Entry::Context, answer.number);
+        let answer = ffi::context(t.edition, self.lent.raw(), lent.room(), link);
+        let reference = |edition| {
+            oracle::context(
+                edition,
+                &t.text,
+                base,
+                &t.links,
+                &t.params,
+                t.link_count,
+                t.param_count,
+                link,
+            )
+        };
+        let expected = reference(t.edition);
+        self.count(run, Entry::Context, answer.number, || reference(NEWER).0);
         let numbers = (answer.number, answer.source, answer.start, answer.end);
         equal(asked, numbers, expected)?;
         equal_rooms(asked, "base", &lent, base)?;
@@ -78,51 +87,70 @@ impl<'t> Asked<'t> {
         room: usize,
     ) -> Compared<(usize, Vec<u8>)> {
         let asked = || {
-            let table = shown::table(self.tables.raw());
+            let table = shown::table(self.tables);
             format!("value of link {link}, place {place}, into {room} octets, in {table}")
         };
         let mut out = Lent::new(room, run.salt());
-        let answer = ffi::value(self.lent.raw(), link, place, out.room_mut());
         let t = self.tables;
+        let answer = ffi::value(t.edition, self.lent.raw(), link, place, out.room_mut());
         let mut copy = vec![0; room];
-        let expected = oracle::value(
-            &t.text,
-            &t.links,
-            &t.params,
-            t.link_count,
-            t.param_count,
-            link,
-            place,
-            &mut copy,
-        );
-        run.reached.count(Entry::Value, answer.number);
+        let mut reference = |edition| {
+            oracle::value(
+                edition,
+                &t.text,
+                &t.links,
+                &t.params,
+                t.link_count,
+                t.param_count,
+                link,
+                place,
+                &mut copy,
+            )
+        };
+        let expected = reference(t.edition);
+        self.count(run, Entry::Value, answer.number, || reference(NEWER).0);
         output(asked, answer, &out, expected, copy)
     }
 
     /// The number of writing into that many octets, and the form.
     pub fn write(&self, run: &mut Run, room: usize) -> Compared<(usize, Vec<u8>)> {
         let asked = || {
-            let table = shown::table(self.tables.raw());
+            let table = shown::table(self.tables);
             format!("write into {room} octets, in {table}")
         };
         let mut out = Lent::new(room, run.salt());
-        let answer = ffi::write(self.lent.raw(), out.room_mut());
         let t = self.tables;
+        let answer = ffi::write(t.edition, self.lent.raw(), out.room_mut());
         let mut form = vec![0; room];
-        let expected = oracle::write(
-            &t.text,
-            &t.links,
-            &t.params,
-            t.link_count,
-            t.param_count,
-            &mut form,
-        );
-        let number = match answer.number {
+        let mut reference = |edition| {
+            oracle::write(
+                edition,
+                &t.text,
+                &t.links,
+                &t.params,
+                t.link_count,
+                t.param_count,
+                &mut form,
+            )
+        };
+        let expected = reference(t.edition);
+        let told = |number| match number {
             1 if t.text.len() <= oracle::number::LIMIT => FORM_TOO_LONG,
             number => number,
         };
-        run.reached.count(Entry::Write, number);
+        let else_told = || told(reference(NEWER).0);
+        self.count(run, Entry::Write, told(answer.number), else_told);
         output(asked, answer, &out, expected, form)
+    }
+
+    /// Counts the number; of an unknown edition, what RFC 8288's would answer.
+    fn count(&self, run: &mut Run, entry: Entry, number: usize, newer: impl FnOnce() -> usize) {
+        let edition = In::of(self.tables.edition);
+        let number = match edition {
+            In::Unknown => newer(),
+            _ => number,
+        };
+        run.reached.count_in(edition, entry, number);
     }
 
     /// Nothing asked may have changed the tables.
@@ -131,8 +159,8 @@ impl<'t> Asked<'t> {
             return Ok(());
         }
         Err(Difference {
-            asked: format!("questions to {}", shown::table(self.tables.raw())),
-            library: shown::table(self.lent.raw()),
+            asked: format!("questions to {}", shown::table(self.tables)),
+            library: shown::raw_table(self.lent.raw()),
             expected: String::from("the table as it was"),
         })
     }

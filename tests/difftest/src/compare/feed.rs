@@ -4,7 +4,7 @@ use super::equal::{equal, equal_rooms};
 use super::read::of_library;
 use super::{Compared, Reading};
 use crate::lent::Lent;
-use crate::reached::Entry;
+use crate::reached::{Entry, In};
 use crate::run::Run;
 use crate::shown;
 use capstanbar::ffi::{self, FeedingState};
@@ -21,6 +21,7 @@ pub struct Expected<'b> {
 
 /// A header that arrives in parts.
 pub struct Fed {
+    edition: usize,
     state: FeedingState,
     buffer: Lent<u8>,
     /// How many octets count.
@@ -30,9 +31,10 @@ pub struct Fed {
 }
 
 impl Fed {
-    pub fn new(run: &mut Run, room: usize) -> Fed {
+    pub fn new(run: &mut Run, edition: usize, room: usize) -> Fed {
         Fed {
-            state: ffi::start(),
+            edition,
+            state: ffi::start(edition),
             buffer: Lent::new(room, run.salt()),
             total: 0,
             parts: vec![],
@@ -40,9 +42,10 @@ impl Fed {
     }
 
     /// Starts anew in the same buffer, with another pattern where octets may have been gathered.
-    pub fn restart(&mut self, run: &mut Run) {
+    pub fn restart(&mut self, run: &mut Run, edition: usize) {
         self.buffer.refill(self.total.min(LIMIT), run.salt());
-        self.state = ffi::start();
+        self.edition = edition;
+        self.state = ffi::start(edition);
         self.total = 0;
         self.parts.clear();
     }
@@ -62,13 +65,13 @@ impl Fed {
         let lent = Lent::holding(part, run.salt());
         let lent_buffer = &mut self.buffer.room_mut()[..room];
         let answer = ffi::feed(self.state, lent.room(), lent_buffer);
-        run.reached.count(Entry::Feed, answer.number);
+        self.count(run, Entry::Feed, answer.number);
 
         let before = self.state;
         self.state = answer.next;
         self.parts.push((part.to_vec(), room));
         self.buffer.keep(0, expected.gathered);
-        if expected.number != 7 {
+        if !matches!(expected.number, 7 | 10) {
             self.total += part.len();
         }
         let asked = || format!("feed {}", self.shown());
@@ -82,6 +85,7 @@ impl Fed {
     /// The state that should follow on the one before; what isn't said of it is as it was answered.
     fn next(&self, before: FeedingState, expected: Expected) -> FeedingState {
         let mut next = self.state;
+        next.edition = before.edition;
         next.total = self.total.min(LIMIT + 1);
         match expected.number {
             0 => next.place = self.total,
@@ -108,7 +112,7 @@ impl Fed {
             let [mut links, mut params] = slots.map(|slots| Lent::new(slots, run.salt()));
             let buffer = &self.buffer.room()[..room];
             let answer = ffi::finish(self.state, buffer, links.room_mut(), params.room_mut());
-            run.reached.count(Entry::Finish, answer.number);
+            self.count(run, Entry::Finish, answer.number);
             equal(asked, of_library(answer), expected.answer)?;
             equal_rooms(asked, "links", &links, &expected.links)?;
             equal_rooms(asked, "parameters", &params, &expected.params)?;
@@ -117,12 +121,21 @@ impl Fed {
         Ok(())
     }
 
-    /// All parts so far.
+    /// Of unknown editions it is counted where the number that RFC 8288's would answer is at hand.
+    fn count(&self, run: &mut Run, entry: Entry, number: usize) {
+        let edition = In::of(self.edition);
+        if edition != In::Unknown {
+            run.reached.count_in(edition, entry, number);
+        }
+    }
+
+    /// The edition, and all parts so far.
     fn shown(&self) -> String {
         let parts = self.parts.iter().map(|(part, room)| {
             let part = shown::octets(part);
             format!("{part} ({room} octets of buffer)")
         });
-        parts.collect::<Vec<_>>().join(", ")
+        let parts = parts.collect::<Vec<_>>().join(", ");
+        format!("{parts} in edition {}", self.edition)
     }
 }

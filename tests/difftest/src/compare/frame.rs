@@ -4,6 +4,7 @@
 use super::equal::{equal, equal_rooms};
 use super::read::of_library;
 use super::{Compared, Reading};
+use crate::generate::edition;
 use crate::lent::Lent;
 use crate::run::Run;
 use crate::shown::{self, Difference};
@@ -46,6 +47,9 @@ fn settled(state: FeedingState, length: usize, room: usize) -> Option<FeedAnswer
             next,
         })
     };
+    if !edition::is_known(state.edition) {
+        return refused(10, 0, state);
+    }
     if room < LIMIT {
         return refused(7, 0, state);
     }
@@ -76,7 +80,15 @@ fn judged(
         next,
     } = answer;
     let right = match number {
-        0 => (place, next.total, next.place) == (0, total, total),
+        0 => {
+            let moved = FeedingState {
+                phase: next.phase,
+                total,
+                place: total,
+                ..state
+            };
+            place == 0 && next == moved
+        }
         2 => {
             let moved = FeedingState {
                 total,
@@ -131,6 +143,9 @@ fn finished(
         place,
         ..ReadAnswer::default()
     };
+    if !edition::is_known(state.edition) {
+        return refused(10, 0);
+    }
     if buffer.len() < LIMIT {
         return refused(7, 0);
     }
@@ -140,5 +155,5 @@ fn finished(
     if state.place < state.total {
         return refused(2, state.place);
     }
-    oracle::read(&buffer[..state.total], links, params)
+    oracle::read(state.edition, &buffer[..state.total], links, params)
 }

@@ -1,8 +1,10 @@
-//! Headers derived from the grammar, with the records that this derivation gives.
+//! Headers derived from an edition's grammar, with the records that this derivation gives.
 
 use super::case::cased;
+use super::edition::{self, OLDER};
 use super::octets::{
-    is_escapable, is_plain, is_target, is_token, ALWAYS, HEX, LETTERS, ONCE, UNKNOWN,
+    is_escapable, is_further, is_plain, is_target, is_token, ALWAYS, FURTHER, HEX, LETTERS, ONCE,
+    UNKNOWN,
 };
 use crate::numbers::Numbers;
 
@@ -12,6 +14,8 @@ pub struct Derived {
     pub header: Vec<u8>,
     pub links: Vec<[usize; 4]>,
     pub params: Vec<[usize; 5]>,
+    /// Whether RFC 8288's edition doesn't derive it, also for a parameter that isn't kept.
+    pub has_further: bool,
 }
 
 /// How much of each part there is at most.
@@ -28,10 +32,17 @@ pub const SHORT: Sizes = Sizes {
     octets: 12,
 };
 
+/// A header of at most these sizes, in either edition.
+pub fn derive_any(numbers: &mut Numbers, sizes: Sizes) -> Derived {
+    let edition = edition::known(numbers);
+    derive(numbers, edition, sizes)
+}
+
 /// A header of at most these sizes.
-pub fn derive(numbers: &mut Numbers, sizes: Sizes) -> Derived {
+pub fn derive(numbers: &mut Numbers, edition: usize, sizes: Sizes) -> Derived {
     let mut maker = Maker {
         numbers,
+        edition,
         sizes,
         made: Derived::default(),
     };
@@ -41,6 +52,7 @@ pub fn derive(numbers: &mut Numbers, sizes: Sizes) -> Derived {
 
 struct Maker<'n> {
     numbers: &'n mut Numbers,
+    edition: usize,
     sizes: Sizes,
     made: Derived,
 }
@@ -145,9 +157,29 @@ impl Maker<'_> {
         }
     }
 
+    /// A bare value with an octet that no token has.
+    fn further(&mut self) {
+        const ADDRESSES: [&[u8]; 4] = [b"http://a/b", b"/", b"x:y", b"//a@b?c=[d]"];
+        if self.numbers.once_in(3) {
+            let address = self.numbers.of(&ADDRESSES);
+            return self.made.header.extend(address);
+        }
+        let last = self.numbers.small(self.sizes.octets);
+        let at = self.numbers.below(last + 1);
+        for place in 0..=last {
+            if place == at {
+                let mark = self.numbers.of(FURTHER);
+                self.put(mark);
+            } else {
+                self.one_of(|octet| is_token(octet) || is_further(octet));
+            }
+        }
+    }
+
     /// The value's places and form; the name's end and the name are given.
     fn value(&mut self, name_end: usize, name: &[u8]) -> [usize; 3] {
-        let form = self.numbers.below(5);
+        let forms = if self.edition == OLDER { 7 } else { 5 };
+        let form = self.numbers.below(forms);
         if form == 0 {
             return [name_end, name_end, 0];
         }
@@ -157,6 +189,11 @@ impl Maker<'_> {
         if form < 3 {
             self.token();
             return [start, self.here(), 1];
+        }
+        if form > 4 {
+            self.made.has_further = true;
+            self.further();
+            return [start, self.here(), 3];
         }
         self.put(b'"');
         if name == b"rel" && self.numbers.once_in(2) {

@@ -2,11 +2,17 @@
 
 pub const LETTERS: &[u8] = b"abcdefghijklmnopqrstuvwxyzABCDEFGHIJKLMNOPQRSTUVWXYZ";
 const TOKEN_MARKS: &[u8] = b"!#$%&'*+-.^_`|~";
+pub const FURTHER: &[u8] = b"()<>@:/[]?={}";
 const TARGET_MARKS: &[u8] = b"-._~:/?#[]@!$&'()*+,;=";
 pub const HEX: &[u8] = b"0123456789abcdefABCDEF";
 
 pub fn is_token(octet: u8) -> bool {
     octet.is_ascii_alphanumeric() || TOKEN_MARKS.contains(&octet)
+}
+
+/// Whether the older edition allows it in a bare value, where no token has it.
+pub fn is_further(octet: u8) -> bool {
+    FURTHER.contains(&octet)
 }
 
 pub fn is_target(octet: u8) -> bool {

@@ -1,6 +1,6 @@
 //! Spans of a text that the grammar derives, found where the text has them.
 
-use super::octets::{is_escapable, is_hex, is_plain, is_target, is_token};
+use super::octets::{is_escapable, is_further, is_hex, is_plain, is_target, is_token};
 use crate::numbers::Numbers;
 
 /// A token from some place on, at most so long, if the text has one there or behind.
@@ -11,6 +11,17 @@ pub fn token(numbers: &mut Numbers, text: &[u8], most: usize) -> Option<[usize; 
     let octets = text[start..].iter().take(most);
     let length = octets.take_while(|&&octet| is_token(octet)).count();
     Some([start, start + length])
+}
+
+/// What only the older edition allows bare, round some place, if the text has it there or behind.
+pub fn further(numbers: &mut Numbers, text: &[u8], most: usize) -> Option<[usize; 2]> {
+    let from = numbers.below(text.len() + 1);
+    let at = from + text[from..].iter().position(|&octet| is_further(octet))?;
+    let bare = |octet: &&u8| is_token(**octet) || is_further(**octet);
+    let [before, behind] = [numbers.below(most), numbers.below(most)];
+    let before = text[..at].iter().rev().take(before).take_while(bare);
+    let behind = text[at + 1..].iter().take(behind).take_while(bare);
+    Some([at - before.count(), at + 1 + behind.count()])
 }
 
 /// What may stand inside quotes, from some place on.

@@ -1,13 +1,15 @@
 //! Good tables that no reading gave: spans overlap and stand in any order.
 
 use super::case::cased;
+use super::edition::OLDER;
 use super::octets::{is_token, ALWAYS, ONCE, UNKNOWN};
 use super::{header, spans};
 use crate::numbers::Numbers;
 use crate::tables::Tables;
 
-/// How many parameters each link gets, and how long spans may grow.
+/// In which edition it is good, how many parameters each link gets, and how long spans may grow.
 pub struct Shape<'s> {
+    pub edition: usize,
     pub params: &'s [usize],
     pub most: usize,
 }
@@ -28,10 +30,10 @@ pub fn table(numbers: &mut Numbers, shape: Shape) -> Tables {
                 false => free_name(numbers, &text, &words, &names),
             };
             names.push(text[name[0]..name[1]].to_ascii_lowercase());
-            params.push(param(numbers, &text, name, shape.most));
+            params.push(param(numbers, &text, name, &shape));
         }
     }
-    Tables::new(text, &links, &params)
+    Tables::new(shape.edition, text, &links, &params)
 }
 
 /// A text of all that tables are made of, and where names stand in it, a `rel` first.
@@ -50,7 +52,7 @@ fn soup(numbers: &mut Numbers) -> (Vec<u8>, Vec<[usize; 2]>) {
             _ => numbers.of(ONCE),
         };
         let word = cased(numbers, word);
-        text.extend(header::derive(numbers, header::SHORT).header);
+        text.extend(header::derive_any(numbers, header::SHORT).header);
         put_word(&mut text, word);
         text.push(numbers.octet());
     }
@@ -82,11 +84,15 @@ fn free_name(
     }
 }
 
-fn param(numbers: &mut Numbers, text: &[u8], name: [usize; 2], most: usize) -> [usize; 5] {
-    let ([start, end], form) = match (numbers.below(5), spans::token(numbers, text, most)) {
-        (0, _) => ([name[1]; 2], 0),
-        (1 | 2, Some(span)) => (span, 1),
-        _ => (spans::quoted(numbers, text, most), 2),
+fn param(numbers: &mut Numbers, text: &[u8], name: [usize; 2], shape: &Shape) -> [usize; 5] {
+    let forms = if shape.edition == OLDER { 7 } else { 5 };
+    let bare = match numbers.below(forms) {
+        0 => Some(([name[1]; 2], 0)),
+        1 | 2 => spans::token(numbers, text, shape.most).map(|span| (span, 1)),
+        5.. => spans::further(numbers, text, shape.most).map(|span| (span, 3)),
+        _ => None,
     };
+    let ([start, end], form) =
+        bare.unwrap_or_else(|| (spans::quoted(numbers, text, shape.most), 2));
     [name[0], name[1], start, end, form]
 }

@@ -3,7 +3,7 @@
 use super::read_and_ask;
 use super::stored;
 use crate::compare::Compared;
-use crate::generate::header::{derive, SHORT};
+use crate::generate::header::{derive_any, SHORT};
 use crate::numbers::Numbers;
 use crate::run::Run;
 
@@ -30,7 +30,7 @@ pub fn short_stored() -> Vec<&'static [u8]> {
 pub fn damaged(numbers: &mut Numbers, stored: &[&[u8]]) -> Vec<u8> {
     let mut header = match numbers.once_in(4) {
         true => numbers.of(stored).to_vec(),
-        false => derive(numbers, SHORT).header,
+        false => derive_any(numbers, SHORT).header,
     };
     for _ in 0..=numbers.small(3) {
         damage(numbers, &mut header);
@@ -39,7 +39,7 @@ pub fn damaged(numbers: &mut Numbers, stored: &[&[u8]]) -> Vec<u8> {
 }
 
 fn damage(numbers: &mut Numbers, header: &mut Vec<u8>) {
-    const MARKS: &[u8] = b"<>;,=\"\\ \t%a";
+    const MARKS: &[u8] = b"<>;,=\"\\ \t%a/";
     let end = header.len();
     if end == 0 {
         return header.push(numbers.of(MARKS));

@@ -6,6 +6,7 @@ mod cuts;
 mod limits;
 mod octets;
 mod parts;
+mod starts;
 mod strange;
 
 use crate::compare::Compared;
@@ -16,6 +17,7 @@ const SMALL: [usize; 3] = [0, 1, 8191];
 
 /// The cases that no seed changes.
 pub fn fixed(run: &mut Run, deep: bool) -> Compared<()> {
+    starts::compare(run)?;
     cuts::compare(run, deep)?;
     octets::compare(run)?;
     limits::compare(run)

@@ -1,7 +1,8 @@
 //! Good tables that no reading gave.
 
-use crate::ask::ask;
+use crate::ask::ask_in_each;
 use crate::compare::Compared;
+use crate::generate::edition;
 use crate::generate::table::{table, Shape};
 use crate::run::Run;
 use crate::shown::{self, Difference};
@@ -25,7 +26,12 @@ pub fn compare(run: &mut Run) -> Compared<()> {
 }
 
 fn compare_shape(run: &mut Run, params: &[usize], most: usize) -> Compared<()> {
-    let mut tables = table(&mut run.numbers, Shape { params, most });
+    let shape = Shape {
+        edition: edition::known(&mut run.numbers),
+        params,
+        most,
+    };
+    let mut tables = table(&mut run.numbers, shape);
     run.case();
     if tables.meanings().is_none() {
         return Err(not_good(&tables));
@@ -35,12 +41,12 @@ fn compare_shape(run: &mut Run, params: &[usize], most: usize) -> Compared<()> {
         tables.links.push(run.numbers.next() as usize);
         tables.params.push(usize::MAX);
     }
-    ask(run, &tables)
+    ask_in_each(run, &tables)
 }
 
 fn not_good(tables: &Tables) -> Difference {
     Difference {
-        asked: format!("whether good: {}", shown::table(tables.raw())),
+        asked: format!("whether good: {}", shown::table(tables)),
         library: String::from("not asked"),
         expected: String::from("good, as it was made; the reference says it isn't"),
     }

@@ -2,14 +2,16 @@
 //! table, and of relations and queries.
 
 use super::read_and_ask;
-use crate::ask::ask;
+use crate::ask::ask_in_each;
 use crate::compare::{Asked, Compared};
+use crate::generate::edition::EDITIONS;
 use crate::run::Run;
 use crate::tables::Tables;
 
-const HEADERS: [&[u8]; 2] = [
+const HEADERS: [&[u8]; 3] = [
     br#" <a%4f> ; x = "\"y" ; z=t ,, <b>;rel=c "#,
     br#"<>;title*="\a";rel="b \c",<d>;anchor=e"#,
+    b"<>;x=/:;y= =b<c> ;rel=d@,<>",
 ];
 
 pub fn compare(run: &mut Run) -> Compared<()> {
@@ -33,7 +35,8 @@ fn in_headers(run: &mut Run, octet: u8) -> Compared<()> {
     Ok(())
 }
 
-/// As a target, as a name, as a token, inside quotes, behind a backslash, as either hex digit.
+/// As a target, as a name, as a token, inside quotes, bare in the older edition's form, also beside
+/// an octet of that form, behind a backslash, as either hex digit.
 fn in_tables(run: &mut Run, octet: u8) -> Compared<()> {
     let alone = [octet, b'r', b'e', b'l'];
     for (link, param) in [
@@ -41,8 +44,15 @@ fn in_tables(run: &mut Run, octet: u8) -> Compared<()> {
         ([1, 4], [0, 1, 1, 1, 0]),
         ([1, 4], [1, 4, 0, 1, 1]),
         ([1, 4], [1, 4, 0, 1, 2]),
+        ([1, 4], [1, 4, 0, 1, 3]),
+        ([1, 4], [1, 4, 0, 2, 3]),
     ] {
         ask_table(run, &alone, link, param)?;
+    }
+    for text in [[octet, b'/'], [b'/', octet]] {
+        let text = [&text[..], b"rel"].concat();
+        ask_table(run, &text, [2, 5], [2, 5, 0, 2, 1])?;
+        ask_table(run, &text, [2, 5], [2, 5, 0, 2, 3])?;
     }
     let behind = [b'\\', octet, b'r', b'e', b'l'];
     ask_table(run, &behind, [2, 5], [2, 5, 0, 2, 2])?;
@@ -56,18 +66,22 @@ fn in_tables(run: &mut Run, octet: u8) -> Compared<()> {
 fn ask_table(run: &mut Run, text: &[u8], link: [usize; 2], param: [usize; 5]) -> Compared<()> {
     run.case();
     let [start, end] = link;
-    let tables = Tables::new(text.to_vec(), &[[start, end, 0, 1]], &[param]);
-    ask(run, &tables)
+    let tables = Tables::new(0, text.to_vec(), &[[start, end, 0, 1]], &[param]);
+    ask_in_each(run, &tables)
 }
 
 /// Every query of one octet to a relation that is this octet.
 fn in_relations(run: &mut Run, octet: u8) -> Compared<()> {
     let text = [b'r', b'e', b'l', b'\\', octet];
-    let tables = Tables::new(text.to_vec(), &[[0, 3, 0, 1]], &[[0, 3, 3, 5, 2]]);
-    let asked = Asked::new(run, &tables);
-    for query in 0..=255 {
-        run.case();
-        asked.search(run, &[query])?;
+    for edition in EDITIONS {
+        let link = [0, 3, 0, 1];
+        let tables = Tables::new(edition, text.to_vec(), &[link], &[[0, 3, 3, 5, 2]]);
+        let asked = Asked::new(run, &tables);
+        for query in 0..=255 {
+            run.case();
+            asked.search(run, &[query])?;
+        }
+        asked.unchanged()?;
     }
-    asked.unchanged()
+    Ok(())
 }

@@ -1,7 +1,8 @@
 //! Slots at, over and under what a header takes.
 
-use crate::compare::{read, Compared};
-use crate::generate::header::{derive, SHORT};
+use crate::compare::Compared;
+use crate::editions::read_in_each;
+use crate::generate::header::{derive_any, SHORT};
 use crate::run::Run;
 
 const CASES: usize = 300;
@@ -9,12 +10,12 @@ const CASES: usize = 300;
 pub fn compare(run: &mut Run) -> Compared<()> {
     run.begin("rooms");
     for _ in 0..CASES {
-        let derived = derive(&mut run.numbers, SHORT);
+        let derived = derive_any(&mut run.numbers, SHORT);
         let (links, params) = (4 * derived.links.len(), 5 * derived.params.len());
         for link_slots in round(links, 4) {
             for param_slots in round(params, 5) {
                 run.case();
-                read(run, &derived.header, link_slots, param_slots)?;
+                read_in_each(run, &derived.header, [link_slots, param_slots])?;
             }
         }
     }

@@ -7,13 +7,14 @@ use crate::run::Run;
 pub const DELIMITERS: &[u8] = b"<>;,=\"\\ a%";
 
 /// What stands before, and how many octets follow at most.
-pub const BEFORE: [(&[u8], usize); 7] = [
+pub const BEFORE: [(&[u8], usize); 8] = [
     (b"", 5),
     (b"<", 3),
     (b"<%", 3),
     (b"<a>", 4),
     (b"<a>;", 5),
     (b"<a>;rel=", 4),
+    (b"<a>;rel=/", 3),
     (b"<a>;rel=\"", 5),
 ];
 

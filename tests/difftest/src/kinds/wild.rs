@@ -1,8 +1,9 @@
 //! Tables with any number in any slot: good or bad as the reference says.
 
 use super::read_amply;
-use crate::ask::ask;
+use crate::ask::ask_in_each;
 use crate::compare::Compared;
+use crate::generate::edition;
 use crate::generate::header::{derive, SHORT};
 use crate::generate::table::{table, Shape};
 use crate::numbers::Numbers;
@@ -19,13 +20,14 @@ pub fn compare(run: &mut Run) -> Compared<()> {
             change(&mut run.numbers, &mut tables);
         }
         run.case();
-        ask(run, &tables)?;
+        ask_in_each(run, &tables)?;
     }
     Ok(())
 }
 
 /// A good table, made or read.
 fn some_table(run: &mut Run) -> Compared<Tables> {
+    let edition = edition::known(&mut run.numbers);
     if run.numbers.once_in(2) {
         let params = [
             1 + run.numbers.below(3),
@@ -34,13 +36,14 @@ fn some_table(run: &mut Run) -> Compared<Tables> {
         ];
         let count = run.numbers.below(params.len() + 1);
         let shape = Shape {
+            edition,
             params: &params[..count],
             most: 12,
         };
         return Ok(table(&mut run.numbers, shape));
     }
-    let header = derive(&mut run.numbers, SHORT).header;
-    let (_, tables) = read_amply(run, &header)?;
+    let header = derive(&mut run.numbers, edition, SHORT).header;
+    let (_, tables) = read_amply(run, edition, &header)?;
     Ok(tables)
 }
 

@@ -17,7 +17,7 @@ pub const WAYS: &[(&str, Way)] = &[
         tables.param_count = 0;
     }),
     ("nothing at all", |_, tables| {
-        *tables = Tables::new(vec![], &[], &[])
+        *tables = Tables::new(tables.edition, vec![], &[], &[])
     }),
     (
         "an empty target at the end of the text",

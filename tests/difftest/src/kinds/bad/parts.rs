@@ -77,7 +77,7 @@ pub const WAYS: &[(&str, Way)] = &[
 ];
 
 /// An octet that isn't in the set.
-fn other(numbers: &mut Numbers, set: fn(u8) -> bool) -> u8 {
+pub fn other(numbers: &mut Numbers, set: fn(u8) -> bool) -> u8 {
     loop {
         let octet = numbers.octet();
         if !set(octet) {
@@ -87,7 +87,7 @@ fn other(numbers: &mut Numbers, set: fn(u8) -> bool) -> u8 {
 }
 
 /// Letters round the octets, or none.
-fn round(numbers: &mut Numbers, octets: &[u8]) -> Vec<u8> {
+pub fn round(numbers: &mut Numbers, octets: &[u8]) -> Vec<u8> {
     let before = &b"ab"[..numbers.below(3)];
     let behind = &b"cd"[..numbers.below(3)];
     [before, octets, behind].concat()

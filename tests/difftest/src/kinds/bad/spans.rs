@@ -8,7 +8,7 @@ use crate::tables::Tables;
 const MAX: usize = usize::MAX;
 
 pub const WAYS: &[(&str, Way)] = &[
-    ("form 3", |numbers, tables| set_form(numbers, tables, 3)),
+    ("form 4", |numbers, tables| set_form(numbers, tables, 4)),
     ("form 258", |numbers, tables| set_form(numbers, tables, 258)),
     ("form 2 past 32 bits", |numbers, tables| {
         set_form(numbers, tables, (1 << 32) + 2)

@@ -1,7 +1,8 @@
 //! Headers, texts and written forms of 8,192 octets, one under and one over.
 
-use crate::ask::ask;
+use crate::ask::ask_in_each;
 use crate::compare::{Asked, Compared};
+use crate::generate::edition::OLDER;
 use crate::kinds::read_and_ask;
 use crate::run::Run;
 use crate::shown::{self, Difference};
@@ -17,13 +18,14 @@ pub fn compare(run: &mut Run) -> Compared<()> {
 
 /// Headers of each length, derivable and not.
 fn headers(run: &mut Run) -> Compared<()> {
-    const MAKES: [(&[u8], &[u8], &[u8]); 11] = [
+    const MAKES: [(&[u8], &[u8], &[u8]); 12] = [
         (b"<", b"a", b">"),
         (b"", b" ", b""),
         (b"", b",", b""),
         (b"<a>;rel=\"", b"a ", b"\""),
         (b"<a>;rel=a;t=\"", b"\\\"", b"\""),
         (b"<a>;rel=", b"a", b""),
+        (b"<a>;rel=", b"a", b"/"),
         (b"", b"<>,", b"<>"),
         (b"<a>;rel=a", b";x;y=\"z\";t=uuuuuuuuuuuuuuuuuuuuuuuuu", b""),
         (b"<", b"a", b""),
@@ -51,13 +53,13 @@ fn texts(run: &mut Run) -> Compared<()> {
             [0, 3, length - 9, length, 1],
             [length - 1, length, length, length, 0],
         ];
-        let good = Tables::new(text, &[[3, length, 0, 2]], &params);
+        let good = Tables::new(0, text, &[[3, length, 0, 2]], &params);
         run.case();
-        ask(run, &good)?;
+        ask_in_each(run, &good)?;
         let mut bad = good.clone();
         bad.links[1] += 1;
         run.case();
-        ask(run, &bad)?;
+        ask_in_each(run, &bad)?;
     }
     Ok(())
 }
@@ -67,24 +69,24 @@ fn texts(run: &mut Run) -> Compared<()> {
 fn forms(run: &mut Run) -> Compared<()> {
     for length in LENGTHS {
         for links in [1, 2, 5, 64] {
-            compare_form(run, links, length)?;
+            compare_form(run, form_of(links, length), length)?;
         }
+        compare_form(run, quoted_form_of(length), length)?;
     }
-    compare_form(run, 16, 65_536)?;
-    compare_form(run, 64, 65_636)
+    compare_form(run, form_of(16, 65_536), 65_536)?;
+    compare_form(run, form_of(64, 65_636), 65_636)
 }
 
-fn compare_form(run: &mut Run, links: usize, length: usize) -> Compared<()> {
+fn compare_form(run: &mut Run, tables: Tables, length: usize) -> Compared<()> {
     run.case();
-    let tables = form_of(links, length);
-    ask(run, &tables)?;
+    ask_in_each(run, &tables)?;
     let (number, form) = Asked::new(run, &tables).write(run, 9000)?;
     let expected = if length > 8192 { (1, 0) } else { (0, length) };
     if (number, form.len()) == expected {
         return Ok(());
     }
     Err(Difference {
-        asked: format!("write {}", shown::table(tables.raw())),
+        asked: format!("write {}", shown::table(&tables)),
         library: format!("{:?}", (number, form.len())),
         expected: format!("{expected:?}"),
     })
@@ -99,5 +101,13 @@ pub fn form_of(links: usize, length: usize) -> Tables {
     let link_records: Vec<_> = (0..links).map(|link| [3, 3 + target, link, 1]).collect();
     let mut params = vec![[0, 3, 3, 4, 1]; links];
     params[links - 1][3] += rest;
-    Tables::new(text, &link_records, &params)
+    Tables::new(0, text, &link_records, &params)
+}
+
+/// In the older edition, `<...>; rel="/"`, whose value has no quotes in the text.
+fn quoted_form_of(length: usize) -> Tables {
+    const ROUND: usize = b"<>; rel=\"/\"".len();
+    let text = [b"rel/", &b"r".repeat(length - ROUND)[..]].concat();
+    let link = [4, text.len(), 0, 1];
+    Tables::new(OLDER, text, &[link], &[[0, 3, 3, 4, 3]])
 }

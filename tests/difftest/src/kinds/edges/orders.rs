@@ -2,16 +2,20 @@
 
 use super::lengths::form_of;
 use crate::compare::{read, Asked, Compared};
+use crate::generate::edition::{unknown, EDITIONS};
 use crate::run::Run;
 use crate::shown::{self, Difference};
 use crate::tables::Tables;
+
+/// In so many unknown editions each table is asked.
+const UNKNOWN: usize = 20;
 
 pub fn compare(run: &mut Run) -> Compared<()> {
     read_orders(run)?;
     table_orders(run)
 }
 
-/// Reading: 1, 2, 3, 4.
+/// Reading: 10, 1, 2, 3, 4.
 fn read_orders(run: &mut Run) -> Compared<()> {
     let long = b"<a>;x;".repeat(1400);
     for (header, link_slots, param_slots, number) in [
@@ -22,14 +26,18 @@ fn read_orders(run: &mut Run) -> Compared<()> {
         (b"<a>;x", 4, 4, 4),
         (b"<a>;x", 4, 5, 0),
     ] {
-        run.case();
-        let (answer, _) = read(run, header, link_slots, param_slots)?;
-        if answer.number != number {
-            return Err(Difference {
-                asked: format!("read {}", shown::octets(header)),
-                library: format!("{answer:?}"),
-                expected: format!("number {number}"),
-            });
+        let unknown = unknown(&mut run.numbers);
+        for (edition, number) in [(0, number), (1, number), (unknown, 10)] {
+            run.case();
+            let (answer, _) = read(run, edition, header, link_slots, param_slots)?;
+            if answer.number != number {
+                let header = shown::octets(header);
+                return Err(Difference {
+                    asked: format!("read {header} in edition {edition}"),
+                    library: format!("{answer:?}"),
+                    expected: format!("number {number}"),
+                });
+            }
         }
     }
     Ok(())
@@ -81,15 +89,15 @@ fn expect(run: &mut Run, tables: &Tables, expected: Answers) -> Compared<()> {
         return Ok(());
     }
     Err(Difference {
-        asked: format!("the order of numbers in {}", shown::table(tables.raw())),
+        asked: format!("the order of numbers in {}", shown::table(tables)),
         library: format!("{answers:?}"),
         expected: format!("{expected:?}"),
     })
 }
 
-/// Writing 1, 5, 6, 1, 7; search 1, 5, 9; context 1, 5, 8; value copy 1, 5, 8, 9, 7.
+/// 10 first of all. Writing 1, 5, 6, 1, 7; search 1, 5, 9; context 1, 5, 8; value copy 1, 5, 8, 9, 7.
 fn table_orders(run: &mut Run) -> Compared<()> {
-    let good = Tables::new(b"rel".to_vec(), &[[0, 3, 0, 1]], &[[0, 3, 0, 1, 1]]);
+    let good = Tables::new(0, b"rel".to_vec(), &[[0, 3, 0, 1]], &[[0, 3, 0, 1, 1]]);
     let mut bad = good.clone();
     bad.params[4] = 3;
     let mut bad_and_long = bad.clone();
@@ -111,8 +119,15 @@ fn table_orders(run: &mut Run) -> Compared<()> {
         (no_relation_and_long_form, Answers { write: 6, ..GOOD }),
         (long_form, Answers { write: 1, ..GOOD }),
     ] {
-        run.case();
-        expect(run, &tables, expected)?;
+        for edition in EDITIONS {
+            run.case();
+            expect(run, &tables.in_edition(edition), expected)?;
+        }
+        for _ in 0..UNKNOWN {
+            run.case();
+            let unknown = unknown(&mut run.numbers);
+            expect(run, &tables.in_edition(unknown), refused(10))?;
+        }
     }
     Ok(())
 }

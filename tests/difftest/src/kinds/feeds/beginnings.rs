@@ -17,6 +17,7 @@ const NO_ROOM: Expected = Expected {
 };
 
 pub struct Beginnings {
+    edition: usize,
     octets: Vec<u8>,
     /// What was judged, by how many octets count.
     feeds: BTreeMap<usize, (usize, usize)>,
@@ -24,8 +25,9 @@ pub struct Beginnings {
 }
 
 impl Beginnings {
-    pub fn of(octets: Vec<u8>) -> Beginnings {
+    pub fn of(edition: usize, octets: Vec<u8>) -> Beginnings {
         Beginnings {
+            edition,
             octets,
             feeds: BTreeMap::new(),
             finishes: BTreeMap::new(),
@@ -49,7 +51,7 @@ impl Beginnings {
     /// Feeds the parts that end at these places, and finishes behind the last.
     pub fn feed(&mut self, run: &mut Run, fed: &mut Fed, ends: &[usize]) -> Compared<()> {
         run.case();
-        fed.restart(run);
+        fed.restart(run, self.edition);
         let mut start = 0;
         for &end in ends {
             self.feed_one(run, fed, start, end)?;
@@ -63,11 +65,9 @@ impl Beginnings {
     /// The same, with calls before each part and behind the last for which the buffer is too small.
     pub fn feed_disturbed(&mut self, run: &mut Run, fed: &mut Fed, ends: &[usize]) -> Compared<()> {
         run.case();
-        fed.restart(run);
-        let refused = Reading::by(
-            |links, params| Feeding::default().finish(&[], links, params),
-            [0; 2],
-        );
+        fed.restart(run, self.edition);
+        let feeding = Feeding::start(self.edition);
+        let refused = Reading::by(|links, params| feeding.finish(&[], links, params), [0; 2]);
         let mut start = 0;
         for (&end, room) in ends.iter().zip(SMALL.into_iter().cycle()) {
             fed.feed(run, &self.octets[start..end], room, NO_ROOM)?;
@@ -99,14 +99,17 @@ impl Beginnings {
     /// Number and place of a feed behind which so many octets count.
     pub fn judged(&mut self, end: usize) -> (usize, usize) {
         let so_far = &self.octets[..end];
-        let judged = || Feeding::default().feed(so_far, &mut [0; LIMIT]);
+        let judged = || Feeding::start(self.edition).feed(so_far, &mut [0; LIMIT]);
         *self.feeds.entry(end).or_insert_with(judged)
     }
 
     /// What a finish behind so many octets answers.
     fn finish(&mut self, end: usize, slots: [usize; 2]) -> &Reading {
-        let so_far = &self.octets[..end];
-        let read = || Reading::by(|links, params| oracle::read(so_far, links, params), slots);
+        let (edition, so_far) = (self.edition, &self.octets[..end]);
+        let read = |links: &mut [usize], params: &mut [usize]| {
+            oracle::read(edition, so_far, links, params)
+        };
+        let read = || Reading::by(read, slots);
         self.finishes.entry(end).or_insert_with(read)
     }
 }

@@ -1,6 +1,8 @@
 //! The library and the reference, fed alike.
 
 use crate::compare::{Compared, Expected, Fed, Reading};
+use crate::generate::edition::NEWER;
+use crate::reached::{Entry, In};
 use crate::run::Run;
 use oracle::Feeding;
 
@@ -9,15 +11,20 @@ pub struct Both {
     reference: Feeding,
     /// What the reference gathers, in a buffer that held the same.
     buffer: Vec<u8>,
+    edition: In,
+    /// Where the edition is unknown: the reference in RFC 8288's, in a buffer of its own.
+    newer: (Feeding, Vec<u8>),
 }
 
 impl Both {
-    pub fn new(run: &mut Run, room: usize) -> Both {
-        let library = Fed::new(run, room);
+    pub fn new(run: &mut Run, edition: usize, room: usize) -> Both {
+        let library = Fed::new(run, edition, room);
         Both {
             buffer: library.buffer().to_vec(),
             library,
-            reference: Feeding::default(),
+            reference: Feeding::start(edition),
+            edition: In::of(edition),
+            newer: (Feeding::start(NEWER), vec![0; room]),
         }
     }
 
@@ -28,6 +35,11 @@ impl Both {
     /// Feeds with that many octets of the buffer.
     pub fn feed_in(&mut self, run: &mut Run, part: &[u8], room: usize) -> Compared<()> {
         let (number, place) = self.reference.feed(part, &mut self.buffer[..room]);
+        if self.edition == In::Unknown {
+            let (newer, buffer) = &mut self.newer;
+            let (number, _) = newer.feed(part, &mut buffer[..room]);
+            run.reached.count_in(In::Unknown, Entry::Feed, number);
+        }
         let expected = Expected {
             number,
             place,
@@ -46,6 +58,14 @@ impl Both {
             self.reference.finish(&self.buffer[..room], links, params)
         };
         let expected = Reading::by(reference, slots);
+        if self.edition == In::Unknown {
+            let (newer, buffer) = &self.newer;
+            let newer = |links: &mut [usize], params: &mut [usize]| {
+                newer.finish(&buffer[..room], links, params)
+            };
+            let number = Reading::by(newer, slots).answer.number;
+            run.reached.count_in(In::Unknown, Entry::Finish, number);
+        }
         self.library.finish(run, room, slots, &expected)?;
         Ok(expected)
     }

@@ -3,6 +3,7 @@
 
 use super::beginnings::Beginnings;
 use crate::compare::{Compared, Fed};
+use crate::generate::edition::EDITIONS;
 use crate::kinds::short::{BEFORE, DELIMITERS};
 use crate::run::Run;
 use oracle::number::LIMIT;
@@ -13,10 +14,12 @@ const SHORT: usize = 8;
 /// One octet fewer follows than where strings are read whole.
 pub fn compare(run: &mut Run, deep: bool) -> Compared<()> {
     run.begin("feed cuts");
-    let mut fed = Fed::new(run, LIMIT);
-    for (before, most) in BEFORE {
-        let mut header = Beginnings::of(before.to_vec());
-        every(run, &mut fed, &mut header, most - 1 + usize::from(deep))?;
+    for edition in EDITIONS {
+        let mut fed = Fed::new(run, edition, LIMIT);
+        for (before, most) in BEFORE {
+            let mut header = Beginnings::of(edition, before.to_vec());
+            every(run, &mut fed, &mut header, most - 1 + usize::from(deep))?;
+        }
     }
     Ok(())
 }

@@ -2,6 +2,7 @@
 
 use super::beginnings::Beginnings;
 use crate::compare::{Compared, Fed};
+use crate::generate::edition::EDITIONS;
 use crate::run::Run;
 use oracle::number::LIMIT;
 
@@ -9,35 +10,42 @@ use oracle::number::LIMIT;
 const ENDS: [usize; 10] = [0, 1, 5, 8190, 8191, 8192, 8193, 8194, 65_536, 65_541];
 
 /// How headers begin, and what then follows on and on.
-const MAKES: [(&[u8], u8); 6] = [
+const MAKES: [(&[u8], u8); 7] = [
     (b"<", b'a'),
     (b"<>;t=\"", b' '),
     (b"", b','),
     (b"", b'x'),
     (b"<a> ", b'<'),
     (b"<%", b'4'),
+    (b"<>;x=y", b'/'),
 ];
 
 pub fn compare(run: &mut Run) -> Compared<()> {
     run.begin("feed limits");
-    let mut fed = Fed::new(run, LIMIT);
+    for edition in EDITIONS {
+        compare_in(run, edition)?;
+    }
+    Ok(())
+}
+
+fn compare_in(run: &mut Run, edition: usize) -> Compared<()> {
+    let mut fed = Fed::new(run, edition, LIMIT);
     for (start, octet) in MAKES {
         let mut header = start.to_vec();
         header.resize(ENDS[9], octet);
-        every(run, &mut fed, header)?;
+        every(run, &mut fed, Beginnings::of(edition, header))?;
     }
     // Malformed at the last octet but one, and at the last.
     for place in [8190, 8191] {
         let mut header = vec![b' '; ENDS[9]];
         header[place] = b'"';
-        every(run, &mut fed, header)?;
+        every(run, &mut fed, Beginnings::of(edition, header))?;
     }
     Ok(())
 }
 
 /// The header in up to three parts, parts of no octets too.
-fn every(run: &mut Run, fed: &mut Fed, header: Vec<u8>) -> Compared<()> {
-    let mut header = Beginnings::of(header);
+fn every(run: &mut Run, fed: &mut Fed, mut header: Beginnings) -> Compared<()> {
     for (at, &first) in ENDS.iter().enumerate() {
         for (at, &second) in ENDS.iter().enumerate().skip(at) {
             for &third in &ENDS[at..] {

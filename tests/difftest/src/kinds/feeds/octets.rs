@@ -3,11 +3,12 @@
 
 use super::beginnings::Beginnings;
 use crate::compare::{Compared, Fed};
+use crate::generate::edition::EDITIONS;
 use crate::kinds::short::DELIMITERS;
 use crate::run::Run;
 use oracle::number::LIMIT;
 
-const BEFORE: [&[u8]; 20] = [
+const BEFORE: [&[u8]; 24] = [
     b"",
     b" ",
     b",",
@@ -25,6 +26,10 @@ const BEFORE: [&[u8]; 20] = [
     b"<>;x= ",
     b"<>;x=y",
     b"<>;x=y ",
+    b"<>;x=/",
+    b"<>;x=/ ",
+    b"<>;x=<",
+    b"<>;x==y",
     b"<>;x=\"",
     b"<>;x=\"\\",
     b"<>;x=\"\"",
@@ -32,13 +37,15 @@ const BEFORE: [&[u8]; 20] = [
 
 pub fn compare(run: &mut Run) -> Compared<()> {
     run.begin("feed octets");
-    let mut fed = Fed::new(run, LIMIT);
-    for before in BEFORE {
-        let mut header = Beginnings::of(before.to_vec());
-        for octet in 0..=255 {
-            header.push(octet);
-            follow(run, &mut fed, &mut header)?;
-            header.pop();
+    for edition in EDITIONS {
+        let mut fed = Fed::new(run, edition, LIMIT);
+        for before in BEFORE {
+            let mut header = Beginnings::of(edition, before.to_vec());
+            for octet in 0..=255 {
+                header.push(octet);
+                follow(run, &mut fed, &mut header)?;
+                header.pop();
+            }
         }
     }
     Ok(())

@@ -4,7 +4,8 @@
 use super::both::Both;
 use super::SMALL;
 use crate::compare::Compared;
-use crate::generate::header::{derive, SHORT};
+use crate::generate::edition;
+use crate::generate::header::{derive_any, SHORT};
 use crate::kinds::ample;
 use crate::kinds::damaged::{damaged, short_stored};
 use crate::kinds::rooms::round;
@@ -20,7 +21,8 @@ pub fn compare(run: &mut Run) -> Compared<()> {
     for _ in 0..CASES {
         run.case();
         let room = run.numbers.of(&[LIMIT, LIMIT + 1, 20_000]);
-        let mut both = Both::new(run, room);
+        let edition = edition::any(&mut run.numbers);
+        let mut both = Both::new(run, edition, room);
         let header = some_header(&mut run.numbers, &stored);
         feed_parts(run, &mut both, &header)?;
         finish_rooms(run, &both, header.len())?;
@@ -35,7 +37,7 @@ fn some_header(numbers: &mut Numbers, stored: &[&[u8]]) -> Vec<u8> {
     match numbers.below(4) {
         0 => numbers.of(stored).to_vec(),
         1 => damaged(numbers, stored),
-        _ => derive(numbers, SHORT).header,
+        _ => derive_any(numbers, SHORT).header,
     }
 }
 
@@ -91,7 +93,7 @@ fn feed_on(run: &mut Run, both: &mut Both, length: usize) -> Compared<()> {
         0 => b" , <b>;rel=c".to_vec(),
         1 | 2 => vec![numbers.octet(); numbers.below(9)],
         3 => vec![numbers.of(b"\n\x7F"); left + numbers.below(3) - 1],
-        _ => [b",", &derive(numbers, SHORT).header[..]].concat(),
+        _ => [b",", &derive_any(numbers, SHORT).header[..]].concat(),
     };
     feed_parts(run, both, &more)
 }

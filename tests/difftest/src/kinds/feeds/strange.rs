@@ -2,7 +2,8 @@
 
 use super::SMALL;
 use crate::compare::{feed_any, finish_any, Compared};
-use crate::generate::header::{derive, SHORT};
+use crate::generate::edition;
+use crate::generate::header::{derive_any, SHORT};
 use crate::lent::Lent;
 use crate::numbers::Numbers;
 use crate::run::Run;
@@ -35,6 +36,7 @@ pub fn compare(run: &mut Run) -> Compared<()> {
         for total in PLACES {
             for place in PLACES {
                 let state = FeedingState {
+                    edition: edition::any(&mut run.numbers),
                     phase,
                     total,
                     place,
@@ -70,13 +72,15 @@ fn follow(run: &mut Run, mut state: FeedingState, buffer: &mut Lent<u8>) -> Comp
 
 /// A state that a feed gave, mostly with another number in it.
 fn some_state(run: &mut Run, buffer: &mut Lent<u8>) -> Compared<FeedingState> {
-    let header = derive(&mut run.numbers, SHORT).header;
+    let header = derive_any(&mut run.numbers, SHORT).header;
     let cut = run.numbers.below(header.len() + 1);
-    let mut state = feed_any(run, ffi::start(), &header[..cut], buffer, LIMIT)?;
-    match run.numbers.below(4) {
-        0 => state.phase = run.numbers.below(PHASES),
-        1 => state.total = run.numbers.of(&PLACES),
-        2 => state.place = run.numbers.of(&PLACES),
+    let start = ffi::start(edition::any(&mut run.numbers));
+    let mut state = feed_any(run, start, &header[..cut], buffer, LIMIT)?;
+    match run.numbers.below(5) {
+        0 => state.edition = edition::any(&mut run.numbers),
+        1 => state.phase = run.numbers.below(PHASES),
+        2 => state.total = run.numbers.of(&PLACES),
+        3 => state.place = run.numbers.of(&PLACES),
         _ => {}
     }
     Ok(state)
@@ -102,15 +106,15 @@ fn some_part(numbers: &mut Numbers, total: usize) -> Vec<u8> {
         _ => numbers.small(20),
     };
     match numbers.below(3) {
-        0 => vec![numbers.of(b"<>;,=\"\\ a%"); length],
+        0 => vec![numbers.of(b"<>;,=\"\\ a%/"); length],
         1 => vec![numbers.octet(); length],
-        _ => derive(numbers, SHORT).header,
+        _ => derive_any(numbers, SHORT).header,
     }
 }
 
 /// Puts other octets into the buffer: the same few over and over, or any.
 fn fill(numbers: &mut Numbers, buffer: &mut Lent<u8>) {
-    const AGAIN: [&[u8]; 4] = [b"<>,", b"<>;x=\"y\",", b" ", b"<\\"];
+    const AGAIN: [&[u8]; 5] = [b"<>,", b"<>;x=\"y\",", b"<>;x=/,", b" ", b"<\\"];
     let any = numbers.once_in(2);
     let again = numbers.of(&AGAIN).iter().cycle();
     for (octet, &again) in buffer.room_mut().iter_mut().zip(again) {
