@@ -1,5 +1,6 @@
-/* A libFuzzer target: a header fed in parts, each answer held to what capstan_read says of the octets so far; and states and buffers of
-   any making, held to what may never be touched. The first octets of an input say how it is cut. README.md says how to run it. */
+/* A libFuzzer target: a header fed in parts, each answer held to what capstan_read says of the octets so far in the same edition, which
+   may be an unknown one; and states and buffers of any making, held to what may never be touched. The first octets of an input say the
+   edition and how it is cut. README.md says how to run it. */
 #include "capstan.h"
 #include "lent.h"
 
@@ -50,8 +51,10 @@ typedef struct {
   size_t buffer_len;
 } feeding;
 
+static int known(size_t edition) { return edition == CAPSTAN_RFC8288 || edition == CAPSTAN_RFC5988; }
+
 static int same_state(capstan_feeding a, capstan_feeding b) {
-  return a.phase == b.phase && a.total == b.total && a.place == b.place;
+  return a.edition == b.edition && a.phase == b.phase && a.total == b.total && a.place == b.place;
 }
 
 /* Feeds with so many octets of the buffer; the part is lent anew. The buffer is looked at by the caller. */
@@ -61,21 +64,23 @@ static capstan_feed_answer feed(feeding *f, const uint8_t *part, size_t length, 
   capstan_feed_answer a = capstan_feed(f->state, lent, length, f->buffer, buffer_len);
   MUST(memcmp(lent, part, length) == 0);
   give_back(&part_room);
-  MUST(a.number <= 2 || a.number == 7);
-  MUST((a.number == 7) == (buffer_len < LIMIT));
+  MUST(a.number <= 2 || a.number == 7 || a.number == 10);
+  MUST((a.number == 10) == !known(f->state.edition));
+  MUST((a.number == 7) == (known(f->state.edition) && buffer_len < LIMIT));
   MUST(a.number == 2 || a.place == 0);
-  if (a.number == 7) MUST(same_state(a.next, f->state));
+  if (a.number >= 7) MUST(same_state(a.next, f->state));
+  MUST(a.next.edition == f->state.edition);
   if (a.number != 0) MUST(a.next.phase == f->state.phase);
   f->state = a.next;
   return a;
 }
 
 /* What a feed behind which these octets count should answer; what is only cut short begins a header. */
-static capstan_feed_answer expected(const uint8_t *header, size_t length) {
+static capstan_feed_answer expected(size_t edition, const uint8_t *header, size_t length) {
   static size_t none;
-  capstan_read_answer r = capstan_read(header, length, &none, 0, &none, 0);
+  capstan_read_answer r = capstan_read(edition, header, length, &none, 0, &none, 0);
   capstan_feed_answer a = {0};
-  a.number = r.number == 1 ? 1 : r.number == 2 && r.place < length ? 2 : 0;
+  a.number = r.number == 1 || r.number == 10 ? r.number : r.number == 2 && r.place < length ? 2 : 0;
   a.place = a.number == 2 ? r.place : 0;
   return a;
 }
@@ -85,8 +90,9 @@ static capstan_read_answer finish(feeding *f, size_t buffer_len, size_t link_slo
   size_t *links = lend(&link_room, link_slots * sizeof(size_t));
   size_t *params = lend(&param_room, param_slots * sizeof(size_t));
   capstan_read_answer a = capstan_finish(f->state, f->buffer, buffer_len, links, link_slots, params, param_slots);
-  MUST(a.number <= 4 || a.number == 7);
-  MUST((a.number == 7) == (buffer_len < LIMIT));
+  MUST(a.number <= 4 || a.number == 7 || a.number == 10);
+  MUST((a.number == 10) == !known(f->state.edition));
+  MUST((a.number == 7) == (known(f->state.edition) && buffer_len < LIMIT));
   MUST(a.number == 2 || a.place == 0);
   MUST(a.number == 0 || (a.links == 0 && a.params == 0));
   size_t link_used = 4 * a.links, param_used = 5 * a.params;
@@ -105,7 +111,7 @@ static void give_tables_back(void) {
 /* The finish answers and fills what reading the octets so far does, in just that room; one slot fewer is too few. */
 static void finish_law(feeding *f, const uint8_t *header, size_t length) {
   static size_t links[4 * LINKS], params[5 * PARAMS];
-  capstan_read_answer r = capstan_read(header, length, links, 4 * LINKS, params, 5 * PARAMS);
+  capstan_read_answer r = capstan_read(f->state.edition, header, length, links, 4 * LINKS, params, 5 * PARAMS);
   capstan_read_answer a = finish(f, f->buffer_len, 4 * r.links, 5 * r.params);
   MUST(a.number == r.number && a.place == r.place && a.links == r.links && a.params == r.params);
   MUST(memcmp(link_room.start, links, 4 * a.links * sizeof(size_t)) == 0);
@@ -132,12 +138,12 @@ static void no_room_law(feeding *f, const uint8_t *part, size_t length, size_t s
 
 /* Feeds the octets from the start up to the end of a part. */
 static void feed_law(feeding *f, const uint8_t *header, size_t start, size_t end) {
-  capstan_feed_answer e = expected(header, end), a = feed(f, header + start, end - start, f->buffer_len);
+  capstan_feed_answer e = expected(f->state.edition, header, end), a = feed(f, header + start, end - start, f->buffer_len);
   MUST(a.number == e.number && a.place == e.place);
   if (a.number == 0) memcpy(f->model + start, header + start, end - start);
   MUST(memcmp(f->buffer, f->model, f->buffer_len) == 0);
   seen(0, a.place);
-  seen(1, 16 * a.next.phase + a.number);
+  seen(1, (16 * a.next.phase + a.number) * 2 + a.next.edition % 2);
 }
 
 /* Each octet that says how is one part: how long it is, and what is called before it. */
@@ -169,6 +175,7 @@ static void wild_law(feeding *f, octets how, const uint8_t *header, size_t lengt
   size_t fill = length < f->buffer_len ? length : f->buffer_len;
   memcpy(f->buffer, header, fill);
   memcpy(f->model, header, fill);
+  if (take(&how) % 8 == 0) f->state.edition = any_number(&how);
   f->state.phase = any_number(&how), f->state.total = any_number(&how), f->state.place = any_number(&how);
   for (int times = 0; times < 3; times++) {
     size_t total = f->state.total, part = take(&how), buffer_len = take(&how) % 8 == 0 ? LIMIT - 1 : f->buffer_len;
@@ -185,8 +192,9 @@ static void wild_law(feeding *f, octets how, const uint8_t *header, size_t lengt
   }
 }
 
-static void start(feeding *f, size_t more) {
-  f->state = capstan_start();
+static void start(feeding *f, size_t edition, size_t more) {
+  f->state = capstan_start(edition);
+  MUST(known(f->state.edition) == known(edition));
   f->buffer_len = LIMIT + more;
   f->buffer = lend(&buffer_room, f->buffer_len);
   f->model = malloc(f->buffer_len);
@@ -225,11 +233,13 @@ int LLVMFuzzerTestOneInput(const uint8_t *input, size_t size) {
   octets how = {rest.next, parts < rest.left ? parts : rest.left};
   size_t length = stretch(header, how.next + how.left, rest.left - how.left, size_said);
   heap = said >= 128;
+  size_t editions[] = {CAPSTAN_RFC8288, CAPSTAN_RFC5988, CAPSTAN_RFC5988, 2 + (size_said << size_said % 60)};
+  size_t edition = editions[said / 32 % 4];
   feeding f;
-  start(&f, size_said % 3 * 16);
+  start(&f, edition, size_said % 3 * 16);
   cut_law(&f, how, header, length);
   end(&f);
-  start(&f, size_said % 3 * 16);
+  start(&f, edition, size_said % 3 * 16);
   wild_law(&f, how, header, length);
   end(&f);
   return 0;

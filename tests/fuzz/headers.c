@@ -1,15 +1,18 @@
-/* A libFuzzer target: headers read, written, read back and joined, held to the laws, codes of names, and texts compared. It needs no
-   second reader. The library has no instrumentation; what guides the fuzzer are the answers: a malformed header's place that grows,
-   counts that are new. README.md says how to run it. */
+/* A libFuzzer target: headers read, written, read back and joined, in each edition, held to the laws, also to those between the
+   editions; unknown editions; codes of names, and texts compared. It needs no second reader. The library has no instrumentation; what
+   guides the fuzzer are the answers: a malformed header's place that grows, counts that are new. README.md says how to run it. */
 #include "capstan.h"
 #include "lent.h"
 
-enum { LIMIT = 8192, LINKS = LIMIT / 2, PARAMS = LIMIT / 2, COUNTERS = 4096 };
+enum { LIMIT = 8192, LINKS = LIMIT / 2, PARAMS = LIMIT / 2, COUNTERS = 4096, KINDS = 7 };
 
-__attribute__((section("__libfuzzer_extra_counters"))) static uint8_t counters[6 * COUNTERS];
+__attribute__((section("__libfuzzer_extra_counters"))) static uint8_t counters[2 * KINDS * COUNTERS];
+
+/* The edition that headers are read in, and tables asked. */
+static size_t edition;
 
 static void seen(size_t kind, size_t what) {
-  if (what < COUNTERS) counters[kind * COUNTERS + what] = 1;
+  if (what < COUNTERS) counters[(edition * KINDS + kind) * COUNTERS + what] = 1;
 }
 
 typedef struct {
@@ -26,7 +29,7 @@ static reading read_in(const uint8_t *header, size_t length, size_t links, size_
   r.text = memmove(text_end - length, header, length);
   r.links = held(link_end, r.link_slots * sizeof(size_t));
   r.params = held(param_end, r.param_slots * sizeof(size_t));
-  r.answer = capstan_read(r.text, length, r.links, r.link_slots, r.params, r.param_slots);
+  r.answer = capstan_read(edition, r.text, length, r.links, r.link_slots, r.params, r.param_slots);
   MUST(r.answer.number <= 4);
   MUST(r.answer.number == 2 || r.answer.place == 0);
   MUST(r.answer.number == 0 || (r.answer.links == 0 && r.answer.params == 0));
@@ -86,14 +89,14 @@ static void join_law(const uint8_t *header, size_t length, capstan_read_answer a
 
 static capstan_length_answer write_in(reading r, size_t room) {
   uint8_t *out = held(out_end, room);
-  capstan_length_answer w =
-      capstan_write(r.text, r.length, r.links, r.link_slots, r.params, r.param_slots, r.answer.links, r.answer.params, out, room);
+  capstan_length_answer w = capstan_write(edition, r.text, r.length, r.links, r.link_slots, r.params, r.param_slots, r.answer.links,
+                                          r.answer.params, out, room);
   MUST(w.number == 0 || w.length == 0);
   MUST(w.length <= room && still_held(out + w.length, room - w.length));
   return w;
 }
 
-/* What is written reads back to the counts, and is written again as it is. */
+/* What is written reads back to the counts in each edition, and is written again as it is. */
 static void write_law(reading r) {
   static uint8_t form[LIMIT];
   capstan_read_answer a = r.answer;
@@ -104,9 +107,13 @@ static void write_law(reading r) {
   memcpy(form, out_end - LIMIT, w.length);
   MUST(write_in(r, w.length).number == 0);
   if (w.length > 0) MUST(write_in(r, w.length - 1).number == 7);
-  reading back = read_in(form, w.length, a.links, a.params);
-  MUST(back.answer.number == 0 && back.answer.links == a.links && back.answer.params == a.params);
-  MUST(write_in(back, LIMIT).length == w.length && memcmp(form, out_end - LIMIT, w.length) == 0);
+  size_t asked = edition;
+  for (edition = CAPSTAN_RFC8288; edition <= CAPSTAN_RFC5988; edition++) {
+    reading back = read_in(form, w.length, a.links, a.params);
+    MUST(back.answer.number == 0 && back.answer.links == a.links && back.answer.params == a.params);
+    MUST(write_in(back, LIMIT).length == w.length && memcmp(form, out_end - LIMIT, w.length) == 0);
+  }
+  edition = asked;
 }
 
 static void value_law(reading r) {
@@ -114,8 +121,8 @@ static void value_law(reading r) {
     for (size_t place = 0; place < r.links[4 * link + 3]; place++) {
       size_t *param = r.params + 5 * (r.links[4 * link + 2] + place), room = param[3] - param[2];
       uint8_t *out = held(out_end, room);
-      capstan_length_answer v = capstan_value(r.text, r.length, r.links, r.link_slots, r.params, r.param_slots, r.answer.links,
-                                              r.answer.params, link, place, out, room);
+      capstan_length_answer v = capstan_value(edition, r.text, r.length, r.links, r.link_slots, r.params, r.param_slots,
+                                              r.answer.links, r.answer.params, link, place, out, room);
       MUST(v.number == 0 && v.length <= room && still_held(out + v.length, room - v.length));
       if (param[4] != 2) MUST(v.length == room && memcmp(out, r.text + param[2], room) == 0);
     }
@@ -202,6 +209,89 @@ static void code_law(reading r) {
   }
 }
 
+/* The number of the table's check: nothing has the empty relation. */
+static size_t judged(size_t in, reading r) {
+  static const uint8_t none;
+  capstan_search_answer s = capstan_search(in, r.text, r.length, r.links, r.link_slots, r.params, r.param_slots, r.answer.links,
+                                           r.answer.params, &none, 0);
+  MUST(s.link == 0);
+  return s.number;
+}
+
+/* How many octets of a value are outside a token. */
+static size_t outside(const uint8_t *octet, const uint8_t *end) {
+  size_t count = 0;
+  for (; octet < end; octet++)
+    if (strchr("()/:<=>?@[]{}", *octet) != NULL) count++;
+  return count;
+}
+
+/* A bare value has form 3 just if an octet of it is outside a token, and the older edition alone allows that. With 3 and 1 exchanged the
+   table is bad; without any 3 it is good in each edition. */
+static void form_law(reading r) {
+  size_t wider = 0;
+  for (size_t *param = r.params, *end = r.params + 5 * r.answer.params; param < end; param += 5) {
+    size_t form = param[4];
+    MUST(form <= 3);
+    if (form == CAPSTAN_TOKEN || form == CAPSTAN_WIDER) {
+      size_t count = outside(r.text + param[2], r.text + param[3]);
+      MUST((count > 0) == (form == CAPSTAN_WIDER));
+      seen(6, form == CAPSTAN_WIDER ? 64 + count : 0);
+      param[4] = CAPSTAN_TOKEN + CAPSTAN_WIDER - form;
+      MUST(judged(CAPSTAN_RFC8288, r) == CAPSTAN_BAD_TABLE && judged(CAPSTAN_RFC5988, r) == CAPSTAN_BAD_TABLE);
+      param[4] = form;
+      if (form == CAPSTAN_WIDER) wider++;
+    }
+    if (r.answer.params > 64) break;
+  }
+  MUST(judged(edition, r) == CAPSTAN_NOT_FOUND && judged(CAPSTAN_RFC5988, r) == CAPSTAN_NOT_FOUND);
+  if (wider > 0) MUST(edition == CAPSTAN_RFC5988 && judged(CAPSTAN_RFC8288, r) == CAPSTAN_BAD_TABLE);
+}
+
+/* The older edition answers as RFC 8288's does, unless the header is malformed there; then it goes as far, or farther. */
+static void edition_law(const uint8_t *header, size_t length) {
+  static size_t links[4 * LINKS], params[5 * PARAMS];
+  edition = CAPSTAN_RFC8288;
+  reading newer = read_amply(header, length);
+  capstan_read_answer n = newer.answer;
+  memcpy(links, newer.links, 4 * n.links * sizeof(size_t));
+  memcpy(params, newer.params, 5 * n.params * sizeof(size_t));
+  edition = CAPSTAN_RFC5988;
+  reading older = read_amply(header, length);
+  capstan_read_answer o = older.answer;
+  if (n.number == 2) {
+    MUST(o.number == 0 || (o.number == 2 && o.place >= n.place));
+    return;
+  }
+  MUST(o.number == n.number && o.place == n.place && o.links == n.links && o.params == n.params);
+  MUST(memcmp(links, older.links, 4 * n.links * sizeof(size_t)) == 0);
+  MUST(memcmp(params, older.params, 5 * n.params * sizeof(size_t)) == 0);
+}
+
+/* In no other edition is anything answered but 10, whatever the header and the tables. */
+static void unknown_law(const uint8_t *header, size_t length) {
+  static const size_t editions[] = {2, 3, 256, (size_t)1 << 32, ((size_t)1 << 32) + 1, SIZE_MAX};
+  size_t said = length == 0 ? 0 : header[length - 1], in = said < 128 ? editions[said % 6] : said << (said % 56);
+  edition = CAPSTAN_RFC5988;
+  reading r = read_amply(header, length);
+  size_t *links = held(link_end, r.link_slots * sizeof(size_t)), *params = held(param_end, r.param_slots * sizeof(size_t));
+  capstan_read_answer a = capstan_read(in, r.text, length, links, r.link_slots, params, r.param_slots);
+  MUST(a.number == 10 && a.place == 0 && a.links == 0 && a.params == 0);
+  MUST(still_held(links, r.link_slots * sizeof(size_t)) && still_held(params, r.param_slots * sizeof(size_t)));
+  r = read_amply(header, length);
+  MUST(judged(in, r) == 10);
+  capstan_context_answer c = capstan_context(in, r.text, length, header, length, r.links, r.link_slots, r.params, r.param_slots,
+                                             r.answer.links, r.answer.params, 0);
+  MUST(c.number == 10 && c.source == 0 && c.start == 0 && c.end == 0);
+  size_t room = said % 9;
+  uint8_t *out = held(out_end, room);
+  capstan_length_answer v = capstan_value(in, r.text, length, r.links, r.link_slots, r.params, r.param_slots, r.answer.links,
+                                          r.answer.params, 0, 0, out, room);
+  capstan_length_answer w = capstan_write(in, r.text, length, r.links, r.link_slots, r.params, r.param_slots, r.answer.links,
+                                          r.answer.params, out, room);
+  MUST(v.number == 10 && v.length == 0 && w.number == 10 && w.length == 0 && still_held(out, room));
+}
+
 int LLVMFuzzerInitialize(int *argc, char ***argv) {
   (void)argc, (void)argv;
   text_end = lent_end(2 * LIMIT);
@@ -213,10 +303,8 @@ int LLVMFuzzerInitialize(int *argc, char ***argv) {
   return 0;
 }
 
-int LLVMFuzzerTestOneInput(const uint8_t *header, size_t length) {
-  if (length > 2 * LIMIT) return -1;
-  seen(4, code_of(header, length));
-  compare_law(header, length);
+/* All that is held of the header in the present edition. */
+static void header_laws(const uint8_t *header, size_t length) {
   capstan_read_answer a = read_amply(header, length).answer;
   MUST((a.number == 1) == (length > LIMIT));
   if (a.number == 2) {
@@ -230,7 +318,20 @@ int LLVMFuzzerTestOneInput(const uint8_t *header, size_t length) {
     reading r = read_amply(header, length);
     if (a.params <= 64) value_law(r);
     code_law(r);
+    form_law(r);
     write_law(r);
   }
+}
+
+int LLVMFuzzerTestOneInput(const uint8_t *header, size_t length) {
+  if (length > 2 * LIMIT) return -1;
+  edition = CAPSTAN_RFC8288;
+  seen(4, code_of(header, length));
+  compare_law(header, length);
+  header_laws(header, length);
+  edition = CAPSTAN_RFC5988;
+  header_laws(header, length);
+  edition_law(header, length);
+  unknown_law(header, length);
   return 0;
 }
