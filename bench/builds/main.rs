@@ -11,6 +11,7 @@ use std::time::{Duration, Instant};
 
 pub struct Copy {
     pub name: &'static str,
+    pub takes_edition: bool,
     pub read: *const (),
     pub search: *const (),
     pub write: *const (),
@@ -32,32 +33,23 @@ struct TwoAnswer {
     other: usize,
 }
 
-type Read =
-    unsafe extern "C" fn(*const u8, usize, *mut usize, usize, *mut usize, usize) -> ReadAnswer;
-type Search = unsafe extern "C" fn(
-    *const u8,
-    usize,
-    *const usize,
-    usize,
-    *const usize,
-    usize,
-    usize,
-    usize,
-    *const u8,
-    usize,
-) -> TwoAnswer;
-type Write = unsafe extern "C" fn(
-    *const u8,
-    usize,
-    *const usize,
-    usize,
-    *const usize,
-    usize,
-    usize,
-    usize,
-    *mut u8,
-    usize,
-) -> TwoAnswer;
+/// RFC 8288's.
+const EDITION: usize = 0;
+
+/// Calls an entry of a copy, with the edition before its arguments if it takes one.
+macro_rules! call {
+    ($copy:ident . $entry:ident ( $($argument:expr => $kind:ty,)+ ) -> $answer:ty) => {{
+        // SAFETY: a copy has the signatures of the C header, and each pointer comes with the count of
+        // what it points to.
+        if $copy.takes_edition {
+            type Entry = unsafe extern "C" fn(usize, $($kind),+) -> $answer;
+            unsafe { transmute::<_, Entry>($copy.$entry)(EDITION, $($argument),+) }
+        } else {
+            type Entry = unsafe extern "C" fn($($kind),+) -> $answer;
+            unsafe { transmute::<_, Entry>($copy.$entry)($($argument),+) }
+        }
+    }};
+}
 
 const SAMPLE: Duration = Duration::from_micros(30);
 
@@ -75,59 +67,46 @@ impl Tables {
     }
 }
 
-// SAFETY, of the three below: a copy has the signatures of the C header, and each pointer comes with
-// the count of what it points to.
-
 fn read(copy: &Copy, header: &[u8], t: &mut Tables) -> ReadAnswer {
-    let entry: Read = unsafe { transmute(copy.read) };
-    let (links, params) = (t.links.as_mut_ptr(), t.params.as_mut_ptr());
-    unsafe {
-        entry(
-            black_box(header.as_ptr()),
-            header.len(),
-            links,
-            t.links.len(),
-            params,
-            t.params.len(),
-        )
-    }
+    call!(copy.read(
+        black_box(header.as_ptr()) => *const u8,
+        header.len() => usize,
+        t.links.as_mut_ptr() => *mut usize,
+        t.links.len() => usize,
+        t.params.as_mut_ptr() => *mut usize,
+        t.params.len() => usize,
+    ) -> ReadAnswer)
 }
 
 fn search(copy: &Copy, text: &[u8], t: &Tables, a: &ReadAnswer) -> TwoAnswer {
-    let entry: Search = unsafe { transmute(copy.search) };
     let query = b"last";
-    unsafe {
-        entry(
-            black_box(text.as_ptr()),
-            text.len(),
-            t.links.as_ptr(),
-            t.links.len(),
-            t.params.as_ptr(),
-            t.params.len(),
-            a.links,
-            a.params,
-            query.as_ptr(),
-            query.len(),
-        )
-    }
+    call!(copy.search(
+        black_box(text.as_ptr()) => *const u8,
+        text.len() => usize,
+        t.links.as_ptr() => *const usize,
+        t.links.len() => usize,
+        t.params.as_ptr() => *const usize,
+        t.params.len() => usize,
+        a.links => usize,
+        a.params => usize,
+        query.as_ptr() => *const u8,
+        query.len() => usize,
+    ) -> TwoAnswer)
 }
 
 fn write(copy: &Copy, text: &[u8], t: &Tables, a: &ReadAnswer, out: &mut [u8]) -> TwoAnswer {
-    let entry: Write = unsafe { transmute(copy.write) };
-    unsafe {
-        entry(
-            black_box(text.as_ptr()),
-            text.len(),
-            t.links.as_ptr(),
-            t.links.len(),
-            t.params.as_ptr(),
-            t.params.len(),
-            a.links,
-            a.params,
-            out.as_mut_ptr(),
-            out.len(),
-        )
-    }
+    call!(copy.write(
+        black_box(text.as_ptr()) => *const u8,
+        text.len() => usize,
+        t.links.as_ptr() => *const usize,
+        t.links.len() => usize,
+        t.params.as_ptr() => *const usize,
+        t.params.len() => usize,
+        a.links => usize,
+        a.params => usize,
+        out.as_mut_ptr() => *mut u8,
+        out.len() => usize,
+    ) -> TwoAnswer)
 }
 
 /// All that a copy answers to a header.

@@ -1,6 +1,6 @@
 //! What is compared before anything is measured.
 
-use crate::library::{self, LIMIT};
+use crate::library::{self, EDITION, LIMIT};
 use capstanbar::ffi::{self, FeedingState, ReadAnswer};
 
 /// What reading answers, and the slots as it leaves them.
@@ -20,9 +20,13 @@ impl Reading {
 
 /// A header's reading, which is the independent reader's too.
 pub fn reading(name: &str, header: &[u8]) -> Reading {
-    let this = Reading::by(|links, params| library::read(header, links, params));
+    reading_in(EDITION, name, header)
+}
+
+pub fn reading_in(edition: usize, name: &str, header: &[u8]) -> Reading {
+    let this = Reading::by(|links, params| library::read(edition, header, links, params));
     let independent = Reading::by(|links, params| {
-        let answer = oracle::read(header, links, params);
+        let answer = oracle::read(edition, header, links, params);
         ReadAnswer {
             number: answer.number,
             place: answer.place,
@@ -55,7 +59,7 @@ fn fed<'a>(
     parts: impl Iterator<Item = &'a [u8]>,
     place: usize,
 ) -> (FeedingState, Vec<u8>) {
-    let (mut state, mut buffer) = (ffi::start(), vec![b'?'; LIMIT]);
+    let (mut state, mut buffer) = (ffi::start(EDITION), vec![b'?'; LIMIT]);
     let (mut total, mut gathered) = (0, buffer.clone());
     for part in parts {
         let answer = ffi::feed(state, part, &mut buffer);

@@ -1,7 +1,7 @@
 //! The contenders that more than one table has. Each takes the headers, or what else is asked, in turn.
 
 use crate::clock::Contender;
-use crate::library::{self, LIMIT};
+use crate::library::{self, EDITION, LIMIT};
 use std::hint::black_box;
 
 /// How often something short is asked at once: a call takes but a few ns.
@@ -24,10 +24,14 @@ pub fn table_loop(texts: &[Vec<u8>]) -> Contender<'_> {
 }
 
 pub fn read(headers: &[Vec<u8>]) -> Contender<'_> {
+    read_in(EDITION, headers)
+}
+
+pub fn read_in(edition: usize, headers: &[Vec<u8>]) -> Contender<'_> {
     let (mut links, mut params) = library::slots();
     Contender::new(move || {
         for header in headers {
-            black_box(library::read(header, &mut links, &mut params));
+            black_box(library::read(edition, header, &mut links, &mut params));
         }
     })
 }

@@ -3,7 +3,7 @@
 use crate::clock::Contender;
 use crate::figures::{figures, Figures};
 use crate::headers::{samples, to_read, Sample};
-use crate::library::{Table, LIMIT};
+use crate::library::{Table, EDITION, LIMIT};
 use crate::{comparing, contenders, independent, library};
 use std::hint::black_box;
 use std::slice::from_ref;
@@ -79,7 +79,7 @@ fn read(name: &str, headers: &[Vec<u8>]) {
     let (mut links, mut params) = library::slots();
     let other = || {
         for header in headers {
-            black_box(oracle::read(header, &mut links, &mut params));
+            black_box(oracle::read(EDITION, header, &mut links, &mut params));
         }
     };
     line("read", name, headers, contenders::read(headers), other);

@@ -128,6 +128,17 @@ fn different() -> Vec<Vec<u8>> {
     (0..500).map(|_| header()).collect()
 }
 
+/// Links whose values are addresses, between such quotes: with none the older edition alone reads them.
+pub fn addresses(quote: &str) -> Vec<u8> {
+    let link = |number| {
+        let relation = format!("{quote}http://example.net/relations/item{quote}");
+        let anchor = format!("{quote}/shelf?volume={number}{quote}");
+        format!("</volume/{number}>; rel={relation}; anchor={anchor}; type={quote}text/html{quote}")
+    };
+    let links: Vec<String> = (1..=40).map(link).collect();
+    links.join(", ").into_bytes()
+}
+
 /// A well-formed header of just that many octets, at least 200.
 pub fn of_length(octets: usize) -> Vec<u8> {
     let link = b"</shelf/7/volume/12?view=full>; rel=\"item\"; title=\"Volume 12\", ";

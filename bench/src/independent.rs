@@ -1,9 +1,10 @@
 //! The independent reader's entries, over the same tables.
 
-use crate::library::Table;
+use crate::library::{Table, EDITION};
 
 pub fn search(t: &Table, relation: &[u8]) -> (usize, usize) {
     oracle::search(
+        EDITION,
         &t.text,
         &t.links,
         &t.params,
@@ -15,6 +16,7 @@ pub fn search(t: &Table, relation: &[u8]) -> (usize, usize) {
 
 pub fn value(t: &Table, link: usize, place: usize, out: &mut [u8]) -> (usize, usize) {
     oracle::value(
+        EDITION,
         &t.text,
         &t.links,
         &t.params,
@@ -28,6 +30,7 @@ pub fn value(t: &Table, link: usize, place: usize, out: &mut [u8]) -> (usize, us
 
 pub fn write(t: &Table, out: &mut [u8]) -> (usize, usize) {
     oracle::write(
+        EDITION,
         &t.text,
         &t.links,
         &t.params,

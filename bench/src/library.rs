@@ -1,9 +1,13 @@
 //! The library's entries, by the crate over its C interface, and the table loop.
 
 use capstanbar::ffi::{self, CompareAnswer, FeedingState, RawTable, ReadAnswer};
+use capstanbar::Edition;
 use std::hint::black_box;
 
 pub const LIMIT: usize = capstanbar::LIMIT;
+
+/// What is measured is read and asked in this edition, but for the table of editions.
+pub const EDITION: usize = Edition::Rfc8288.number();
 
 const LINK_SLOTS: usize = 4 * 256;
 const PARAM_SLOTS: usize = 5 * 1024;
@@ -34,13 +38,18 @@ impl Table {
     }
 }
 
-pub fn read(header: &[u8], links: &mut [usize], params: &mut [usize]) -> ReadAnswer {
-    ffi::read(black_box(header), links, params)
+pub fn read(
+    edition: usize,
+    header: &[u8],
+    links: &mut [usize],
+    params: &mut [usize],
+) -> ReadAnswer {
+    ffi::read(edition, black_box(header), links, params)
 }
 
 /// Starts, feeds the header in parts of that many octets, and answers the state behind them.
 pub fn feed(header: &[u8], size: usize, buffer: &mut [u8]) -> FeedingState {
-    let mut state = ffi::start();
+    let mut state = ffi::start(EDITION);
     for part in black_box(header).chunks(size) {
         state = ffi::feed(state, part, buffer).next;
     }
@@ -58,19 +67,19 @@ pub fn finish(
 
 /// The number, and the link found.
 pub fn search(table: &Table, relation: &[u8]) -> (usize, usize) {
-    let answer = ffi::search(table.raw(), relation);
+    let answer = ffi::search(EDITION, table.raw(), relation);
     (answer.number, answer.link)
 }
 
 /// The number, and the length.
 pub fn value(table: &Table, link: usize, place: usize, out: &mut [u8]) -> (usize, usize) {
-    let answer = ffi::value(table.raw(), link, place, out);
+    let answer = ffi::value(EDITION, table.raw(), link, place, out);
     (answer.number, answer.length)
 }
 
 /// The number, and the length.
 pub fn write(table: &Table, out: &mut [u8]) -> (usize, usize) {
-    let answer = ffi::write(table.raw(), out);
+    let answer = ffi::write(EDITION, table.raw(), out);
     (answer.number, answer.length)
 }
 

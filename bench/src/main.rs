@@ -4,6 +4,7 @@
 mod clock;
 mod comparing;
 mod contenders;
+mod editions;
 mod entries;
 mod feeding;
 mod figures;
@@ -26,4 +27,6 @@ fn main() {
     names::print();
     println!();
     pairs::print();
+    println!();
+    editions::print();
 }
