@@ -116,7 +116,16 @@ pub extern "C" fn capstan_value(
         link place (now (out .entry)) (lengthOut r (now (out .exit))) ⌝ }
 {
     let counts = counts_of(link_count, param_count);
-    copy::value(edition, text, links, params, counts, LinkNumber(link), place, out).numbers()
+    copy::value(
+        edition,
+        text,
+        links,
+        params,
+        counts,
+        LinkNumber(link),
+        place,
+        out,
+    ).numbers()
 }
 
 // Writes a table.

@@ -11,6 +11,7 @@ use Rattle.tables.specs.Good.{Follows}
 use Rattle.tables.proofs.FromReading.{read-good}
 use Rattle.records.specs.declared.LinkRecord.{LinkRecord}
 use Rattle.records.specs.Slots.{IsLink}
+use Rattle.outcomes.specs.InEdition.{unknown, known}
 use Rattle.outcomes.specs.Read.{ReadOut, Read, too-long, not-derived, no-link-room, no-param-room, reads}
 use Rattle.kinds.specs.declared.Counts.{Counts}
 use Rattle.answers.specs.Read.{readNumbers, readOut}
@@ -62,17 +63,19 @@ module _ {L P : List ℕ} {n m i : ℕ} where
   on {j} o lt e = subst (TableLeft L P n m) (sym (e ∙ add-one i)) (passed o lt .behind)
 
 -- what reading answers with number 0 is held
-read-held : {h L P : List ℕ} {o : ReadOut} → Read h L P o → o .number ≡ 0 → Held (o .linkSlots) (o .paramSlots) (o .links) (o .params)
-read-held (too-long a) e = absurd (omega (arith, e))
-read-held (not-derived a b) e = absurd (omega (arith, e))
-read-held (no-link-room a b c) e = absurd (omega (arith, e))
-read-held (no-param-room a b c d) e = absurd (omega (arith, e))
-read-held (reads a b c d) e =
-    let g = read-good _ _ _ _ b .good in
+read-held : {n : ℕ} {h L P : List ℕ} {o : ReadOut} → Read n h L P o → o .number ≡ 0
+    → Held (o .linkSlots) (o .paramSlots) (o .links) (o .params)
+read-held (unknown z) e = absurd (omega (arith, e))
+read-held (known q (too-long a)) e = absurd (omega (arith, e))
+read-held (known q (not-derived a b)) e = absurd (omega (arith, e))
+read-held (known q (no-link-room a b c)) e = absurd (omega (arith, e))
+read-held (known q (no-param-room a b c d)) e = absurd (omega (arith, e))
+read-held (known q (reads a b c d)) e =
+    let g = read-good _ _ _ _ _ b .good in
     record { link-room = g .link-room; param-room = g .param-room; follows = g .follows }
 
 -- reading's answer, known to be its table's counts
-pub done-held : {h L P L′ P′ : List ℕ} {r : ReadAnswer} {n : Counts} → Read h L P (readOut (readNumbers r) L′ P′) → r ≡ Done n
-    → Held L′ P′ (n .links) (n .params)
-done-held {h} {L} {P} {L′} {P′} d e =
-    read-held (subst (λ (y : ReadAnswer). Read h L P (readOut (readNumbers y) L′ P′)) e d) refl
+pub done-held : {m : ℕ} {h L P L′ P′ : List ℕ} {r : ReadAnswer} {n : Counts} → Read m h L P (readOut (readNumbers r) L′ P′)
+    → r ≡ Done n → Held L′ P′ (n .links) (n .params)
+done-held {m} {h} {L} {P} {L′} {P′} d e =
+    read-held (subst (λ (y : ReadAnswer). Read m h L P (readOut (readNumbers y) L′ P′)) e d) refl

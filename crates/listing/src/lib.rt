@@ -51,12 +51,7 @@ fn put_table(links: &[usize], params: &[usize], counts: Counts)
 }
 
 // Reads the header into the lent tables, lists the answer, and hands it on.
-pub fn list(
-    edition: usize,
-    header: &[u8],
-    links: &mut [usize],
-    params: &mut [usize],
-) -> ReadAnswer
+pub fn list(edition: usize, header: &[u8], links: &mut [usize], params: &mut [usize]) -> ReadAnswer
     ensures { λ r. ⌜
         Read edition (now (header .entry)) (now (links .entry)) (now (params .entry))
         (readOut (readNumbers r) (now (links .exit)) (now (params .exit))) ⌝ }

@@ -41,12 +41,7 @@ pub fn read_in(
 }
 
 // In the edition of this number, if there is one.
-pub fn read(
-    edition: usize,
-    header: &[u8],
-    links: &mut [usize],
-    params: &mut [usize],
-) -> ReadAnswer
+pub fn read(edition: usize, header: &[u8], links: &mut [usize], params: &mut [usize]) -> ReadAnswer
     ensures { λ r. ⌜ Read edition (now (header .entry)) (now (links .entry)) (now (params .entry))
         (readOut (readNumbers r) (now (links .exit)) (now (params .exit))) ⌝ }
 {

@@ -219,6 +219,6 @@ written-tells e d t u g h q =
     let same : meanings w (b .links) ≡ tableMeanings u =
     subst (λ (x : List ℕ). meanings x (b .links) ≡ tableMeanings u) (sym q) (b .same-meanings)
     in
-    sym (a .same-meanings) ∙ ap (meanings w) 
+    sym (a .same-meanings) ∙ ap (meanings w)
     (one-reading (further Rfc8288) (apart Rfc8288) w (a .links) (b .links) (a .reads Rfc8288) reads)
     ∙ same

@@ -52,7 +52,16 @@ fn value(
     out: &mut [u8],
 ) {
     io::write_all(1, b"value");
-    let told = copy::value(edition, text, links, params, counts, LinkNumber::first(), 0, out).numbers();
+    let told = copy::value(
+        edition,
+        text,
+        links,
+        params,
+        counts,
+        LinkNumber::first(),
+        0,
+        out,
+    ).numbers();
     let n = told.length;
     put_octets(told.number, &out[..n]);
 }

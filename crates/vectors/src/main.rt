@@ -17,7 +17,7 @@ const RFC8288: usize = 0;
 const RFC5988: usize = 1;
 
 // A header that is its own name, behind the number of its edition; if it is read, the table is asked too.
-fn list_header(edition: usize, header: &[u8]) {
+fn list_in(edition: usize, header: &[u8]) {
     io::write_all(1, b"# ");
     io::print_decimal(1, edition as u64);
     io::write_all(1, b" ");
@@ -28,6 +28,12 @@ fn list_header(edition: usize, header: &[u8]) {
     if let ReadAnswer::Done(counts) = listing::list(edition, header, &mut links, &mut params) {
         ask::all(edition, header, &links, &params, counts);
     }
+}
+
+// In one edition behind the other.
+fn list_header(header: &[u8]) {
+    list_in(RFC8288, header);
+    list_in(RFC5988, header);
 }
 
 // Where the line that begins at `from` ends.
@@ -46,8 +52,7 @@ fn list_lines(s: &[u8]) {
     let mut at = 0;
     while at < s.len() {
         let end = line_end(s, at);
-        list_header(RFC8288, &s[at..end]);
-        list_header(RFC5988, &s[at..end]);
+        list_header(&s[at..end]);
         if end == s.len() {
             return;
         }
