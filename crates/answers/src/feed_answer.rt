@@ -6,8 +6,8 @@ use crate::MALFORMED;
 use crate::Refusal;
 use kinds::Place;
 
-// The number of the edition asked for; the phase of reading behind the octets gathered; how many octets counted, at most one past the limit; and, within it, their place. A
-// caller in C holds it from call to call, so that its numbers may be any.
+// The number of the edition asked for; the phase of reading behind the octets gathered; how many octets counted, at most one past the
+// limit; and, within it, their place. A caller in C holds it from call to call, so that its numbers may be any.
 #[repr(C)]
 pub struct Feeding {
     pub edition: usize,

@@ -85,15 +85,8 @@ pub extern "C" fn capstan_context<'a>(
         (now (base .entry)) link r ⌝ }
 {
     let counts = counts_of(link_count, param_count);
-    let answer = context::context_number(
-        edition,
-        text,
-        base,
-        links,
-        params,
-        counts,
-        LinkNumber(link),
-    );
+    let number = LinkNumber(link);
+    let answer = context::context_number(edition, text, base, links, params, counts, number);
     answer.numbers(base.len())
 }
 
@@ -116,16 +109,8 @@ pub extern "C" fn capstan_value(
         link place (now (out .entry)) (lengthOut r (now (out .exit))) ⌝ }
 {
     let counts = counts_of(link_count, param_count);
-    copy::value(
-        edition,
-        text,
-        links,
-        params,
-        counts,
-        LinkNumber(link),
-        place,
-        out,
-    ).numbers()
+    let number = LinkNumber(link);
+    copy::value(edition, text, links, params, counts, number, place, out).numbers()
 }
 
 // Writes a table.

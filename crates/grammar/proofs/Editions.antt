@@ -1,6 +1,6 @@
 -- The further octets of each edition keep apart; and what the edition without any derives, every other derives too.
 use Prim.Native.Nat.{ℕ}
-use mathlib.Core.Path.{_≡_, refl}
+use mathlib.Core.Path.{refl}
 use mathlib.Core.Bool.{false≢true}
 use mathlib.Core.List.{List}
 use Rattle.octets.specs.Sets.{isOlder}
@@ -23,7 +23,6 @@ use Rattle.grammar.specs.Grammar.{
   Parameters,
   no-more,
   and-one,
-  OneLink,
   link,
   Item,
   empty,

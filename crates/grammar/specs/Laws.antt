@@ -24,8 +24,8 @@ abbrev pub EditionsApart : Type 0
 EditionsApart = (e : Edition) → Admissible (further e)
 
 -- whatever RFC 8288's edition reads, every edition reads to the same links
-abbrev pub ReadAlike : Type 0
-ReadAlike = (extra : Extra) (s : List ℕ) (K : List Link) → Reading (further Rfc8288) s K → Reading extra s K
+abbrev pub ReadByAll : Type 0
+ReadByAll = (extra : Extra) (s : List ℕ) (K : List Link) → Reading (further Rfc8288) s K → Reading extra s K
 
 -- the machine is exact: a header is derived with the links R just if the machine, run over all of it, finishes with R
 pub record MachineExact : Type 0 where

@@ -1,5 +1,5 @@
 // The laws of the grammar, held by the gate: each function promises one statement of specs/Laws.antt and does nothing.
-ghost use Rattle.grammar.specs.Laws.{EditionsApart, ReadAlike};
+ghost use Rattle.grammar.specs.Laws.{EditionsApart, ReadByAll};
 ghost use Rattle.grammar.specs.Laws.{MachineExact, OneReading, Decided, OnePlace, Codes, Keeps, CutShort, OctetsOnly, Joins, JoinsMalformed};
 
 // Each edition's further octets keep apart.
@@ -8,8 +8,8 @@ pub fn editions_apart()
 {}
 
 // Whatever RFC 8288's edition reads, every edition reads to the same links.
-pub fn read_alike()
-    ensures { λ _. ⌜ ReadAlike ⌝ }
+pub fn read_by_all()
+    ensures { λ _. ⌜ ReadByAll ⌝ }
 {}
 
 // The machine is exact for the grammar.

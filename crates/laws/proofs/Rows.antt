@@ -96,6 +96,8 @@ mirror-holds =
       copied = λ out h. known {e = Rfc5988} refl (usable mirror-usable (copied (omega arith) (omega arith) h));
       no-context = λ base. known {e = Rfc8288} refl (refused (not-good short mirror-bad));
       no-copy = λ out. known {e = Rfc8288} refl (refused (not-good short mirror-bad));
+      no-search = λ q. known {e = Rfc8288} refl (refused (not-good short mirror-bad));
+      no-write = λ out. known {e = Rfc8288} refl (refused (not-good short mirror-bad));
     }
 
 pub premise-needed : (e : Edition) → PremiseNeeded e

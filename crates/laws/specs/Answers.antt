@@ -164,7 +164,7 @@ ReadsAlike =
     (h L P : List ℕ) (o q : ReadOut) → Read (numberOf Rfc8288) h L P o → (o .number ≡ malformedHeader → ⊥)
     → Read (numberOf Rfc5988) h L P q → q ≡ o
 
--- Unless it answers 5 of a table, the older edition answers the same of it.
+-- Unless RFC 8288's edition answers 5 of a table, the older one answers the same of it.
 pub record TablesAlike : Type 0 where
   pub search : (t : Table) (q : List ℕ) (o : SearchOut) → Search (numberOf Rfc8288) t q o → (o .number ≡ badTable → ⊥)
       → Search (numberOf Rfc5988) t q o

@@ -17,7 +17,8 @@ whole [] = []
 whole (p ∷ ps) = p ++ whole ps
 
 -- A state and a gathering buffer that come of a start with the number n and of feeds of the parts listed, in order, each handed what the
--- one before it handed out. In between, feeds with another buffer, under the limit, may have been refused; their parts are not listed.
+-- one before it handed out. In between, feeds with another buffer, under the limit, may have been refused; their parts are not listed. (Where n is
+-- no edition's, every feed is refused, listed or not: then it makes no difference which parts there were.)
 pub data HandedOut (n : ℕ) : List (List ℕ) → List ℕ → Feeding → Type 0 where
   started : {buffer : List ℕ} → limit ≤ length buffer → HandedOut n [] buffer (start n)
   fed : {ps : List (List ℕ)} {buffer part : List ℕ} {st next : Feeding} {o : FeedOut} → HandedOut n ps buffer st

@@ -15,7 +15,9 @@ use Rattle.tables.specs.Good.{Each}
 use Rattle.tables.specs.Table.{Table}
 use Rattle.outcomes.specs.Number.{done, badTable, noSuchLink, notFound}
 use Rattle.outcomes.specs.Context.{of-text, of-base, nothing, Context}
+use Rattle.outcomes.specs.Search.{Search}
 use Rattle.outcomes.specs.Copy.{untouched, holding, Copy}
+use Rattle.outcomes.specs.Write.{Write}
 use Rattle.laws.specs.Row.{recordedTable, RowHolds}
 use Rattle.laws.specs.Marked.{marked}
 use Rattle.laws.specs.Slips.{slips}
@@ -43,7 +45,7 @@ MarkedHold = Each (RowHolds Rfc8288) marked
 abbrev pub SlipsHold : Type 0
 SlipsHold = (e : Edition) → Each (RowHolds e) slips
 
--- and so are those that the editions read otherwise
+-- and so are headers with bare values, in the older edition, and in RFC 8288's
 pub record OlderHold : Type 0 where
   pub in-older : Each (RowHolds Rfc5988) older
   pub in-newer : Each (RowHolds Rfc8288) olderRefused
@@ -67,6 +69,8 @@ pub record MirrorHolds : Type 0 where
   pub copied : (out : List ℕ) → 10 ≤ length out → Copy (numberOf Rfc5988) mirror 0 1 out (holding out (octets "http://c/d"))
   pub no-context : (base : List ℕ) → Context (numberOf Rfc8288) mirror base 0 (nothing badTable)
   pub no-copy : (out : List ℕ) → Copy (numberOf Rfc8288) mirror 0 1 out (untouched out badTable)
+  pub no-search : (q : List ℕ) → Search (numberOf Rfc8288) mirror q (record { number = badTable; link = 0 })
+  pub no-write : (out : List ℕ) → Write (numberOf Rfc8288) mirror out (untouched out badTable)
 
 -- a header with nothing before and after it
 abbrev pub bare : List ℕ → Padded

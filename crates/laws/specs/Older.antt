@@ -1,5 +1,5 @@
--- Headers that the older edition reads otherwise, and what RFC 8288's says of them: the same statement as for the marked ones.
-use Prim.Native.Nat.{ℕ}
+-- Headers with bare values, read by hand in the older edition, and in RFC 8288's where that finds them malformed elsewhere: the same
+-- statement as for the marked ones.
 use mathlib.Core.List.{List, [], _∷_}
 use Rattle.octets.specs.Text.{octets}
 use Rattle.outcomes.specs.Number.{noRelation}
@@ -50,7 +50,7 @@ older =
     ∷ record { header = octets "<a>;rel=a/b;"; judgement = malformed 12 }
     ∷ []
 
--- in RFC 8288's, of the first ones
+-- in RFC 8288's
 abbrev pub olderRefused : List Row
 olderRefused =
     record { header = octets "<a>;rel=http://example.net/foo"; judgement = malformed 12 }

@@ -15,7 +15,7 @@ pub fn slips_hold()
     ensures { λ _. ⌜ SlipsHold ⌝ }
 {}
 
-// So are headers that the editions read otherwise.
+// So are headers with bare values, in the older edition and in RFC 8288's.
 pub fn older_hold()
     ensures { λ _. ⌜ OlderHold ⌝ }
 {}
@@ -45,7 +45,8 @@ pub fn join_refuses()
     ensures { λ _. ⌜ JoinRefuses ⌝ }
 {}
 
-// What is written for an accepted table reads, in every edition and in room for its counts, to the same counts and an equal list of link meanings.
+// What is written for an accepted table reads, in every edition and in room for its counts, to the same counts and an equal list of
+// link meanings.
 pub fn back_answers()
     ensures { λ _. ⌜ BackAnswers ⌝ }
 {}
@@ -60,7 +61,7 @@ pub fn reads_alike()
     ensures { λ _. ⌜ ReadsAlike ⌝ }
 {}
 
-// Whatever table it doesn't find bad, the older one answers alike of it.
+// Whatever table RFC 8288's edition doesn't find bad, the older one answers alike of it.
 pub fn tables_alike()
     ensures { λ _. ⌜ TablesAlike ⌝ }
 {}

@@ -8,16 +8,13 @@ const LINKS: usize = 256 * records::LINK_SLOTS;
 
 const PARAMS: usize = 1024 * records::PARAM_SLOTS;
 
-// The number of RFC 8288's edition.
-const RFC8288: usize = 0;
-
 fn main() {
     let mut input = [0u8; INPUT];
     let n = io::read_full(0, &mut input);
     let mut links = [0usize; LINKS];
     let mut params = [0usize; PARAMS];
     listing::list(
-        RFC8288,
+        octets::editions::RFC8288,
         lines::without_final_lf(&input[..n]),
         &mut links,
         &mut params,

@@ -3,6 +3,11 @@ ghost use mathlib.Core.Path.{_≡_};
 ghost use Rattle.octets.specs.Editions.{further, IsAsked};
 use crate::sets::is_older;
 
+// The numbers that ask for them.
+pub const RFC8288: usize = 0;
+
+pub const RFC5988: usize = 1;
+
 // An edition that is known: RFC 8288's, and the older one of RFC 5988.
 pub enum Edition {
     Rfc8288,
@@ -20,8 +25,8 @@ pub fn edition_of(number: usize) -> Asked
     ensures { λ r. ⌜ IsAsked number r ⌝ }
 {
     match number {
-        0 => Asked::Known(Edition::Rfc8288),
-        1 => Asked::Known(Edition::Rfc5988),
+        RFC8288 => Asked::Known(Edition::Rfc8288),
+        RFC5988 => Asked::Known(Edition::Rfc5988),
         _ => Asked::Unknown,
     }
 }

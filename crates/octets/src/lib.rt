@@ -1,4 +1,5 @@
-// Octets: a test for each set that the grammar names; the editions of the grammar, by their sets; and the law of how many pairs of octets tell whether two texts are the same.
+// Octets: a test for each set that the grammar names; the editions of the grammar, by their sets; and the law of how many pairs of
+// octets tell whether two texts are the same.
 ghost use Rattle.octets.specs.Laws.{PairsTell};
 
 mod bits;

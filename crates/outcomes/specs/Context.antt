@@ -1,5 +1,4 @@
--- A link's context: its `anchor` value span as written, else the whole base. The numbers come in the order
--- 10, 1, 5, 8.
+-- A link's context: its `anchor` value span as written, else the whole base. The numbers: 10, 1, 5, 8.
 use Prim.Native.Nat.{ℕ, _≤_, _<_}
 use mathlib.Core.Path.{_≡_}
 use mathlib.Core.List.{List}

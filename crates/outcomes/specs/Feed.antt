@@ -13,7 +13,8 @@ use Rattle.outcomes.specs.Number.{limit, done, tooLong, malformedHeader,
 use Rattle.outcomes.specs.Read.{ReadOut, refused, ReadIn}
 use Rattle.outcomes.specs.InEdition.{InEdition}
 
--- in an edition that there is, the octets that count behind a feed of `part`, where `fed` counted before it: with a buffer under the limit no more than before
+-- in an edition that there is, the octets that count behind a feed of `part`, where `fed` counted before it: with a buffer under the
+-- limit no more than before
 abbrev pub counted : List ℕ → List ℕ → List ℕ → List ℕ
 counted fed part buffer = cond (ltb (length buffer) limit) fed (fed ++ part)
 

@@ -48,8 +48,8 @@ pub record Refusals : Type 0 where
   pub feed : (n : ℕ) (fed part buffer : List ℕ) (o : FeedOut) → Feed n fed part buffer o → FeedKeeps buffer o
   pub finish : (n : ℕ) (fed buffer L P : List ℕ) (o : ReadOut) → Finish n fed buffer L P o → ReadKeeps L P o
 
--- A number that is no edition's is refused with 10, whatever else is asked: every entry answers and leaves what its refusals do, and
--- feeds and the finish on a state so started hand the state back as it was.
+-- A number that is no edition's is refused with 10, whatever else is asked: every entry, the finish on a state so started too, answers
+-- and leaves what its refusals do, and a feed on such a state hands it back as it was.
 pub record UnknownRefused : Type 0 where
   pub read : (n : ℕ) → NoEdition n → (h L P : List ℕ) (o : ReadOut) → Read n h L P o → o ≡ refused L P unknownEdition 0
   pub search : (n : ℕ) → NoEdition n → (t : Table) (q : List ℕ) (o : SearchOut) → Search n t q o

@@ -7,7 +7,7 @@ ghost use Rattle.tables.specs.Table.{paramsFrom};
 ghost use Rattle.tables.specs.Good.{InText, GoodValue, GoodParam};
 ghost use Rattle.records.specs.Slots.{toParam};
 ghost use Rattle.part_check.specs.Decides.{Decides};
-ghost use Rattle.param_check.specs.Params.{GoodParams};
+ghost use Rattle.param_check.specs.Params.{WiderValue, GoodParams};
 use kinds::ParamNumber;
 use names::Seen;
 use octets::editions::Edition;
@@ -18,6 +18,18 @@ use part_check::is_token_part;
 use part_check::is_wider_part;
 use records::ParamRecord;
 use records::param_at;
+
+// Whether the form is 3, and the value is what the edition allows without quotes though it is no token. The edition is asked first, so
+// that RFC 8288's pays nothing for the form.
+fn is_wider_value(edition: Edition, s: &[u8], p: ParamRecord) -> bool
+    requires { ⌜ InText (now s) (p .value .from .0) (p .value .to .0) ⌝ }
+    ensures { λ r. ⌜ Decides r (WiderValue (further edition) (now (s .entry)) (toParam p)) ⌝ }
+{
+    match edition {
+        Edition::Rfc8288 => false,
+        Edition::Rfc5988 => p.form == 3 && is_wider_part(edition, s, p.value),
+    }
+}
 
 // Whether the form is 0, 1, 2 or, where the edition has further octets, 3, and the value is as its form says.
 fn is_good_value(edition: Edition, s: &[u8], p: ParamRecord) -> bool
@@ -30,8 +42,7 @@ fn is_good_value(edition: Edition, s: &[u8], p: ParamRecord) -> bool
         0 => (value.from.0 == p.name.to.0) & (value.to.0 == p.name.to.0),
         1 => is_token_part(s, value),
         2 => is_part(s, value, PartKind::Inside),
-        3 => is_wider_part(edition, s, value),
-        _ => false,
+        _ => is_wider_value(edition, s, p),
     }
 }
 

@@ -12,18 +12,13 @@ use lib.Seq.{length-take-le, getD-take}
 use Rattle.octets.specs.Sets.{isToken}
 use Rattle.grammar.specs.Grammar.{Run, run-end, run-more, Some, Token}
 use Rattle.tables.specs.Good.{InText}
+use Rattle.tables.proofs.Forms.{run-has}
 use Rattle.tables.proofs.Texts.{run-le}
 use Rattle.cursor.specs.Passed.{Passed}
 use Rattle.part_check.specs.Decides.{Decides}
 use Rattle.part_check.proofs.Deciding.{also, both, tests-lt, tests-eq}
 
 module _ (s : List ℕ) {f : ℕ → Bool} where
-  -- every octet of a run is in the set
-  pub run-has : {a e : ℕ} (i : ℕ) → Run s f a e → a ≤ i → i < e → f (getD s i 0) ≡ true
-  run-has i run-end h k = absurd (omega arith)
-  run-has {a} i (run-more b r) h k =
-      ⊎-elim (λ q. subst (λ (n : ℕ). f (getD s n 0) ≡ true) q (b .is)) (λ l. run-has i r l k) (eq-or-lt-of-le h)
-
   -- a run in the text cut at n is one in the text
   pub uncut : {n a e : ℕ} → n ≤ length s → Run (take n s) f a e → Run s f a e
   uncut h run-end = run-end

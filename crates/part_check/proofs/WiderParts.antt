@@ -2,7 +2,7 @@
 -- where it does.
 use Prim.Native.Nat.{ℕ, suc, _≤_, _<_}
 use native.Mathlib.Omega.{arith}
-use mathlib.Core.Path.{_≡_, refl, sym, subst, _∙_}
+use mathlib.Core.Path.{_≡_, sym, subst, _∙_}
 use mathlib.Core.Bool.{Bool, true, false, _&&_, _||_, false≢true, true≢false}
 use mathlib.Core.List.{List}
 use lib.Dec.{ltb, eqb}
@@ -13,19 +13,16 @@ use Rattle.octets.specs.declared.editions.Edition.{Edition}
 use Rattle.grammar.specs.Grammar.{In, Run, run-more, isBare, Wider, from-token}
 use Rattle.grammar.proofs.Editions.{apart}
 use Rattle.tables.specs.Good.{InText}
-use Rattle.tables.proofs.Texts.{run-le}
+use Rattle.tables.proofs.Forms.{run-has}
+use Rattle.tables.proofs.Texts.{run-le, or-true}
 use Rattle.cursor.specs.Passed.{Passed}
 use Rattle.part_check.specs.Decides.{Decides}
 use Rattle.part_check.proofs.Deciding.{also, both, tests-lt, tests-eq}
-use Rattle.part_check.proofs.Tokens.{run-has, uncut, split, stopped, reached}
+use Rattle.part_check.proofs.Tokens.{uncut, split, stopped, reached}
 
 or-else : {a b : Bool} → a ≡ false → (a || b) ≡ true → b ≡ true
 or-else {a = false} q e = e
 or-else {a = true} q e = absurd (true≢false q)
-
-or-true : (a : Bool) {b : Bool} → b ≡ true → (a || b) ≡ true
-or-true true e = refl
-or-true false e = e
 
 module _ (ed : Edition) (s : List ℕ) {a e k j : ℕ} (h : InText s a e) (p : Passed isToken (take e s) a k)
     (q : Passed (isBare (further ed)) (take e s) k j) where

@@ -1,4 +1,4 @@
-// From a phase on: past the octets that leave it as it is, and past the one that doesn't.
+// From a phase on: past a run of octets that leave it as it is, and past the one behind them, which mostly doesn't.
 ghost use Prim.Native.Nat.{_≤_};
 ghost use lib.ListN.{length};
 ghost use Rattle.grammar.specs.Grammar.{Extra};

@@ -10,7 +10,7 @@ use lib.ListN.{length, getD}
 use borrow.Author.Tests.{eqb-true, eqb-false}
 use Rattle.octets.specs.Sets.{isBlank, isToken}
 use Rattle.grammar.specs.Link.{Param}
-use Rattle.grammar.specs.Grammar.{Extra, isBare, At, In, Inside}
+use Rattle.grammar.specs.Grammar.{Extra, isBare, At, Inside}
 use Rattle.grammar.specs.Machine.{param}
 use Rattle.kinds.specs.declared.Span.{Span}
 use Rattle.records.specs.declared.ParamRecord.{ParamRecord}

@@ -1,6 +1,5 @@
 -- What is good in some edition is good in the older one: of the forms only 3 speaks of further octets, and RFC 8288's edition has none.
 use Prim.Native.Nat.{ℕ}
-use mathlib.Core.Path.{_≡_}
 use mathlib.Core.Bool.{false≢true}
 use mathlib.Core.List.{List}
 use Rattle.octets.specs.Editions.{further}

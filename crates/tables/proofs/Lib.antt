@@ -7,5 +7,6 @@ pub mod ReadBack
 pub mod Filled
 pub mod FromReading
 pub mod Decide
+pub mod Forms
 pub mod GoodAlike
 pub mod InGood

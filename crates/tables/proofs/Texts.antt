@@ -43,7 +43,7 @@ pub folded-folded : (xs : List ℕ) → folded (folded xs) ≡ folded xs
 folded-folded [] = refl
 folded-folded (c ∷ xs) = rw (fold-fold c, folded-folded xs)
 
-or-true : (a : Bool) {b : Bool} → b ≡ true → (a || b) ≡ true
+pub or-true : (a : Bool) {b : Bool} → b ≡ true → (a || b) ≡ true
 or-true true e = refl
 or-true false e = e
 

@@ -1,5 +1,5 @@
--- A good table in an edition of the grammar, clause by clause. Whoever made it, spans may cross or stand in any order, and nothing is asked of
--- the octets round a span.
+-- A good table in an edition of the grammar, clause by clause. Whoever made it, spans may cross or stand in any order, and nothing is
+-- asked of the octets round a span.
 use Prim.Native.Nat.{ℕ, zero, suc, _+_, _≤_}
 use mathlib.Core.Path.{_≡_}
 use mathlib.Core.Bool.{Bool, true, _&&_, not}

@@ -1,5 +1,5 @@
 -- What is proved of tables, meanings and the written form.
-use Prim.Native.Nat.{ℕ}
+use Prim.Native.Nat.{ℕ, _<_}
 use mathlib.Core.Path.{_≡_}
 use mathlib.Core.Logic.{_⊎_}
 use mathlib.Core.Bool.{true, false}
@@ -9,13 +9,13 @@ use Rattle.octets.specs.Sets.{oneOf}
 use Rattle.octets.specs.Fold.{folded}
 use Rattle.octets.specs.Editions.{further}
 use Rattle.octets.specs.declared.editions.Edition.{Edition}
-use Rattle.octets.specs.declared.editions.Edition.the-variants.{Rfc5988}
-use Rattle.grammar.specs.Link.{Link}
-use Rattle.grammar.specs.Grammar.{Extra}
+use Rattle.octets.specs.declared.editions.Edition.the-variants.{Rfc8288, Rfc5988}
+use Rattle.grammar.specs.Link.{Link, Param}
+use Rattle.grammar.specs.Grammar.{Extra, Admissible, Token, Wider}
 use Rattle.grammar.specs.Kept.{Reading}
 use Rattle.grammar.specs.Records.{linkRecords, paramRecords, countParams}
 use Rattle.tables.specs.Table.{Table, linksOf}
-use Rattle.tables.specs.Good.{Good}
+use Rattle.tables.specs.Good.{GoodValue, Good}
 use Rattle.tables.specs.Meaning.{linkMeaning, meanings, tableMeanings}
 use Rattle.tables.specs.Relation.{relations, hasRelation}
 use Rattle.tables.specs.Written.{written}
@@ -37,6 +37,17 @@ NoQuery =
 -- whether a table is good is decided
 abbrev pub GoodDecided : Type 0
 GoodDecided = (extra : Extra) (t : Table) → Dec (Good extra t)
+
+-- Which values have form 3: none in RFC 8288's edition, and in every other none that is a token, none that is empty, and only what stands
+-- bare with an octet outside a token. What has form 1 is a token in every edition.
+pub record FormThree : Type 0 where
+  pub none : (s : List ℕ) (p : Param) → GoodValue (further Rfc8288) s p → p .form ≡ 3 → ⊥
+  pub no-token : (extra : Extra) → Admissible extra → (s : List ℕ) (p : Param) → GoodValue extra s p → p .form ≡ 3
+      → Token s (p .valueFrom) (p .valueTo) → ⊥
+  pub not-empty : (extra : Extra) (s : List ℕ) (p : Param) → GoodValue extra s p → p .form ≡ 3 → p .valueFrom < p .valueTo
+  pub wider : (extra : Extra) (s : List ℕ) (p : Param) → GoodValue extra s p → p .form ≡ 3
+      → Wider extra s (p .valueFrom) (p .valueTo)
+  pub token : (extra : Extra) (s : List ℕ) (p : Param) → GoodValue extra s p → p .form ≡ 1 → Token s (p .valueFrom) (p .valueTo)
 
 -- what is good in some edition is good in the older one
 abbrev pub GoodAlike : Type 0

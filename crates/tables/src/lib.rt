@@ -1,6 +1,6 @@
 // The laws of tables and of the written form, held by the gate: each function promises one statement of specs/Laws.antt
 // and does nothing.
-ghost use Rattle.tables.specs.Laws.{RelationsMeant, QueryFolded, NoQuery, GoodDecided, GoodAlike, ReadGood, ReadBack, WrittenTells};
+ghost use Rattle.tables.specs.Laws.{RelationsMeant, QueryFolded, NoQuery, GoodDecided, FormThree, GoodAlike, ReadGood, ReadBack, WrittenTells};
 
 // A link's relations are told by its meaning alone.
 pub fn relations_meant()
@@ -22,6 +22,11 @@ pub fn good_decided()
     ensures { λ _. ⌜ GoodDecided ⌝ }
 {}
 
+// Which values have form 3, and which form 1.
+pub fn form_three()
+    ensures { λ _. ⌜ FormThree ⌝ }
+{}
+
 // What is good in some edition is good in the older one.
 pub fn good_alike()
     ensures { λ _. ⌜ GoodAlike ⌝ }
@@ -32,7 +37,7 @@ pub fn read_good()
     ensures { λ _. ⌜ ReadGood ⌝ }
 {}
 
-// The written form of a good table reads to the same counts and an equal list of link meanings.
+// The written form of a good table reads, in every edition, to the same counts and an equal list of link meanings.
 pub fn read_back()
     ensures { λ _. ⌜ ReadBack ⌝ }
 {}

@@ -6,15 +6,12 @@ ghost use lib.ListN.{length};
 ghost use Rattle.outcomes.specs.Number.{limit};
 use answers::LIMIT;
 use answers::read_answer::ReadAnswer;
+use octets::editions::RFC5988;
+use octets::editions::RFC8288;
 use records::LINK_SLOTS;
 use records::PARAM_SLOTS;
 
 mod ask;
-
-// The number of RFC 8288's edition, and of the older one.
-const RFC8288: usize = 0;
-
-const RFC5988: usize = 1;
 
 // A header that is its own name, behind the number of its edition; if it is read, the table is asked too.
 fn list_in(edition: usize, header: &[u8]) {
