@@ -95,7 +95,7 @@ fn expect(run: &mut Run, tables: &Tables, expected: Answers) -> Compared<()> {
     })
 }
 
-/// 10 first of all. Writing 1, 5, 6, 1, 7; search 1, 5, 9; context 1, 5, 8; value copy 1, 5, 8, 9, 7.
+/// An unknown edition before everything; then, of any two things that are wrong with a table or a call, the one that is asked first.
 fn table_orders(run: &mut Run) -> Compared<()> {
     let good = Tables::new(0, b"rel".to_vec(), &[[0, 3, 0, 1]], &[[0, 3, 0, 1, 1]]);
     let mut bad = good.clone();
