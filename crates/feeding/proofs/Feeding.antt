@@ -13,7 +13,7 @@ use Rattle.grammar.specs.Place.{Begins, Place}
 use Rattle.grammar.specs.Machine.{gap, run, phaseOf}
 use Rattle.outcomes.specs.Number.{limit, done, tooLong, malformedHeader, noOutputRoom}
 use Rattle.outcomes.specs.Feed as fed
-use Rattle.outcomes.specs.Feed.{counted, FeedOut, unstored, gathering, FeedIn}
+use Rattle.outcomes.specs.Feed.{counted, unstored, FeedIn}
 use Rattle.outcomes.specs.Feeding as any
 use Rattle.outcomes.specs.Feeding.{Feeding, Holds, over, stuck, begun, movedTo, AnyFeed, FeedsIn}
 use Rattle.kinds.specs.declared.Place.{Place as PlaceOf}

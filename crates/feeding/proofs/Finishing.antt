@@ -1,13 +1,12 @@
 -- What the finish answers, of each state.
-use Prim.Native.Nat.{ℕ, suc, _+_, _≤_, _<_}
+use Prim.Native.Nat.{ℕ, _≤_, _<_}
 use native.Mathlib.Omega.{arith}
-use mathlib.Core.Path.{_≡_, sym, subst}
-use mathlib.Core.List.{List, [], _++_, append-nil}
+use mathlib.Core.Path.{sym, subst}
+use mathlib.Core.List.{List, [], append-nil}
 use lib.ListN.{length, take}
 use Rattle.octets.specs.declared.editions.Edition.{Edition}
-use Rattle.grammar.specs.Link.{Link}
 use Rattle.grammar.specs.Grammar.{Extra, Field}
-use Rattle.grammar.specs.Place.{Begins, Malformed, Place}
+use Rattle.grammar.specs.Place.{Begins, Malformed}
 use Rattle.outcomes.specs.Number.{limit, tooLong, malformedHeader, noOutputRoom}
 use Rattle.outcomes.specs.Read as reading
 use Rattle.outcomes.specs.Read.{ReadOut, refused, ReadIn}

@@ -1,7 +1,7 @@
 // A header that arrives in parts. Each part is judged from the phase on in which the one before it ended, and then stored behind what
 // was gathered; so an octet is judged once, however the header is cut, and a refusal stores nothing.
 ghost use mathlib.Core.Path.{_≡_};
-ghost use Prim.Native.Nat.{_+_, _≤_, suc, min};
+ghost use Prim.Native.Nat.{_+_, suc, min};
 ghost use lib.ListN.{length};
 ghost use Rattle.outcomes.specs.Number.{limit};
 ghost use Rattle.outcomes.specs.Feeding.{start, movedTo, FeedsIn, Feeds, FinishesIn, Finishes};

@@ -15,7 +15,6 @@ use Rattle.grammar.specs.Grammar.{
   Run,
   run-end,
   run-more,
-  Blanks,
   inside-end,
   plain,
   pair,

@@ -1,19 +1,15 @@
 -- The machine is exact: a header is derived with the links R just if the machine, run over it, finishes with R.
-use Prim.Native.Nat.{ℕ, zero, suc, _<_, _≤_}
+use Prim.Native.Nat.{ℕ, suc, _<_, _≤_}
 use native.Mathlib.Omega.{arith}
-use mathlib.Core.Path.{_≡_, refl, sym, ap, subst, _∙_}
+use mathlib.Core.Path.{_≡_, refl, sym, ap, subst}
 use mathlib.Core.List.{List, [], _∷_, reverse, reverseAux}
 use mathlib.Core.Option.{Option, none, some}
 use lib.ListN.{length, getD, drop, length-drop}
 use lib.Seq.{drop-cons}
-use Rattle.octets.specs.Sets.{isToken}
 use Rattle.grammar.specs.Link.{Link, Param}
 use Rattle.grammar.specs.Grammar.{
   Extra,
   Admissible,
-  At,
-  In,
-  Run,
   run-end,
   run-more,
   Blanks,
@@ -25,12 +21,10 @@ use Rattle.grammar.specs.Grammar.{
   triple,
 }
 use Rattle.grammar.specs.Grammar.{
-  Value,
   token,
   quoted,
   wider,
   from-token,
-  Parameter,
   valueless,
   valued,
   Parameters,
@@ -62,7 +56,7 @@ use Rattle.grammar.specs.Machine.{
   dead,
   Open,
 }
-use Rattle.grammar.specs.Machine.{step, run, settle, inOrder, finish, param, add, flag, close}
+use Rattle.grammar.specs.Machine.{step, run, settle, inOrder, finish, param, add, flag}
 use Rattle.grammar.proofs.Rest.{
   whole,
   Gap,
@@ -73,7 +67,6 @@ use Rattle.grammar.proofs.Rest.{
   NameRest,
   no-value,
   a-value,
-  BareRest,
   all-token,
   turns-wide,
   Rest,

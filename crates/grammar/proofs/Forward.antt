@@ -2,31 +2,25 @@
 use Prim.Native.Nat.{ℕ, suc, _<_}
 use native.Mathlib.Omega.{arith}
 use mathlib.Core.Path.{_≡_, refl}
-use mathlib.Core.Bool.{Bool, true, false}
+use mathlib.Core.Bool.{true, false}
 use mathlib.Core.List.{List, [], _∷_, reverseAux}
 use lib.ListN.{length, getD}
-use Rattle.octets.specs.Sets.{isBlank, isToken, isPlain, isTarget}
+use Rattle.octets.specs.Sets.{isBlank, isToken, isTarget}
 use Rattle.grammar.specs.Link.{Link, Param}
 use Rattle.grammar.specs.Grammar.{
   Extra,
   Admissible,
-  At,
-  In,
-  Run,
   run-end,
   run-more,
   Blanks,
-  Inside,
   inside-end,
   plain,
   pair,
-  Target,
   target-end,
   octet,
   triple,
 }
 use Rattle.grammar.specs.Grammar.{
-  Value,
   token,
   quoted,
   wider,
@@ -65,7 +59,6 @@ use Rattle.grammar.proofs.Rest.{
   NameRest,
   no-value,
   a-value,
-  BareRest,
   all-token,
   turns-wide,
   Rest,

@@ -51,7 +51,7 @@ use Rattle.laws.specs.Answers.{
   TablesAlike,
 }
 use Rattle.laws.specs.Answers.{Rejected, brokenJoin, octetsBefore, PlaceSettled, JoinRefused}
-use Rattle.laws.specs.Answers.{AcceptedTable, octetsOf, readTable, BackAnswers, WrittenApart}
+use Rattle.laws.specs.Answers.{octetsOf, readTable, BackAnswers, WrittenApart}
 use Rattle.laws.proofs.Broken.{padsOf, malformed-among, front, tail, join-at, not-before, at-place}
 
 -- ---- what an answer tells of the input, in the edition ed

@@ -34,7 +34,7 @@ use Rattle.grammar.specs.Machine.{
   run,
   settle,
 }
-use Rattle.grammar.specs.Machine.{Open, next, nameEnd, add, flag, param, opened, inOrder}
+use Rattle.grammar.specs.Machine.{Open, next, nameEnd, add, flag, param, inOrder}
 use Rattle.grammar.proofs.Exact.{derived-read, read-derived}
 use Rattle.grammar.proofs.Prefix.{run-append}
 

@@ -1,5 +1,5 @@
 -- A row holds if one computed test passes: the header is run through the machine, and the table is asked and written.
-use Prim.Native.Nat.{ℕ, zero, suc, _+_, _*_, _/_, _≤_, _<_}
+use Prim.Native.Nat.{ℕ, suc, _/_, _≤_, _<_}
 use native.Mathlib.Omega.{arith}
 use mathlib.Core.Path.{_≡_, refl, sym, ap, subst, subst₂, _∙_}
 use mathlib.Core.Logic.{_⊎_, inl, inr, ⊎-map}
@@ -9,15 +9,14 @@ use mathlib.Core.Option.{Option, none, some}
 use lib.Dec.{leb, ltb, eqb}
 use lib.ListN.{length, take, drop}
 use borrow.Author.Tests.{leb-true, ltb-true, eqb-true, not-true}
-use Rattle.octets.specs.Sets.{isBlank, isDigit, isLetter, isToken, isPlain, isEscapable, isTarget, isHex}
-use Rattle.octets.specs.Fold.{fold, same, sameFolded}
+use Rattle.octets.specs.Fold.{same}
 use Rattle.octets.specs.Editions.{numberOf, further}
 use Rattle.octets.specs.declared.editions.Edition.{Edition}
 use Rattle.octets.proofs.Laws.{same-sound}
 use Rattle.octets.proofs.Octets.{both, every, every-at}
 use Rattle.grammar.specs.Link.{Link}
 use Rattle.grammar.specs.Grammar.{Extra}
-use Rattle.grammar.specs.Kept.{nameOf, isOnce, keptLink, Reading}
+use Rattle.grammar.specs.Kept.{keptLink, Reading}
 use Rattle.grammar.specs.Records.{linkWidth, paramWidth, linkRoom, paramRoom, linkRecords, paramRecords, countParams}
 use Rattle.grammar.specs.Machine.{gap, run, finish}
 use Rattle.grammar.proofs.Editions.{apart}

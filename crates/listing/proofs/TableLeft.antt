@@ -1,10 +1,9 @@
 -- A table that is held is passed link by link, and reading leaves one.
-use Prim.Native.Nat.{ℕ, zero, suc, _+_, _*_, _≤_, _<_}
+use Prim.Native.Nat.{ℕ, zero, suc, _+_, _≤_, _<_}
 use mathlib.Core.Path.{_≡_, refl, sym, subst, _∙_}
 use mathlib.Core.List.{List}
 use native.Mathlib.Omega.{arith}
 use native.Mathlib.Numerals.{add-one}
-use lib.ListN.{length}
 use Rattle.grammar.specs.Records.{linkRoom, paramRoom}
 use Rattle.tables.specs.Table.{firstOf, countOf}
 use Rattle.tables.specs.Good.{Follows}

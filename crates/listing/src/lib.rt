@@ -1,7 +1,6 @@
 // Lists a header on standard output: its links and their parameters, or why it is refused. The lines are those of the crate `lines`,
 // and their numbers those of the answer and of the records; what is done here is to hand them out.
 ghost use Prim.Native.Nat.{_+_, _≤_};
-ghost use lib.ListN.{length};
 ghost use Rattle.grammar.specs.Records.{paramRoom};
 ghost use Rattle.io.specs.Counts.{Counts as Within};
 ghost use Rattle.outcomes.specs.Read.{Read};

@@ -2,11 +2,10 @@
 use Prim.Native.Nat.{ℕ, _*_}
 use native.Mathlib.Omega.{arith}
 use mathlib.Core.Path.{_≡_, refl, ap}
-use mathlib.Core.List.{List, _++_}
+use mathlib.Core.List.{List}
 use lib.ListN.{length, drop}
 use lib.Seq.{drop-at, drop-append-seam}
 use Rattle.octets.specs.declared.editions.Edition.{Edition}
-use Rattle.grammar.specs.Link.{Link}
 use Rattle.grammar.specs.Records.{linkWidth, paramWidth, linkRecords, paramRecords, countParams}
 use Rattle.tables.specs.Table.{Table}
 use Rattle.tables.proofs.Filled.{link-records-length, param-records-length}

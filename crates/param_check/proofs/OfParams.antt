@@ -11,7 +11,7 @@ use Rattle.grammar.specs.Link.{Param}
 use Rattle.grammar.specs.Grammar.{Extra}
 use Rattle.grammar.specs.Kept.{nameOf, among, isOnce, codeOf}
 use Rattle.tables.specs.Table.{paramAt, paramsFrom}
-use Rattle.tables.specs.Good.{Each, each-none, each-more, onceEach, GoodParam}
+use Rattle.tables.specs.Good.{each-none, each-more, onceEach, GoodParam}
 use Rattle.tables.proofs.InGood.{head-of, tail-of}
 use Rattle.names.specs.Remembers.{Remembers, noneSeen, hasCode, withCode}
 use Rattle.names.specs.declared.Seen.{Seen}

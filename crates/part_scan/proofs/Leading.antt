@@ -2,9 +2,8 @@
 use Prim.Native.Nat.{ℕ, suc, _≤_, _<_}
 use native.Mathlib.Omega.{arith}
 use mathlib.Core.Path.{_≡_, refl, sym, subst, _∙_}
-use mathlib.Core.Bool.{Bool, true, false}
+use mathlib.Core.Bool.{Bool, true}
 use mathlib.Core.List.{List}
-use lib.Dec.{eqb}
 use lib.ListN.{length, getD}
 use Rattle.octets.specs.Sets.{isBlank, isToken, isTarget, isPlain, isEscapable}
 use Rattle.grammar.specs.Grammar.{Extra, Admissible, At, In, Run, run-end, run-more}
@@ -14,7 +13,6 @@ use Rattle.kinds.specs.declared.Place.{Place}
 use Rattle.cursor.specs.declared.Cursor.{Cursor}
 use Rattle.part_scan.specs.declared.go_on.Move.{Move}
 use Rattle.part_scan.specs.declared.go_on.Move.the-variants.{End, Halt, To}
-use Rattle.part_scan.specs.declared.PartScan.{PartScan}
 use Rattle.part_scan.specs.declared.PartScan.the-variants.{Through, Stuck}
 use Rattle.phases.specs.Steps.{stuck, stepIn}
 use Rattle.phases.proofs.Steps.{
@@ -31,7 +29,7 @@ use Rattle.phases.proofs.Steps.{
   quote-step,
   on-escape,
 }
-use Rattle.part_scan.specs.Moved.{Leads, here, further, Stays, Halts, Moved, ended, halted, moved}
+use Rattle.part_scan.specs.Moved.{Leads, here, further, Stays, Moved, ended, halted, moved}
 use Rattle.part_scan.specs.Moved.{PartScanned, through, stuck-at}
 
 -- the octets of the set f leave the phase p, which is one

@@ -3,7 +3,7 @@ use Prim.Native.Nat.{ℕ, suc, _≤_}
 use native.Mathlib.Omega.{arith}
 use mathlib.Core.Path.{_≡_, refl, sym, ap, _∙_}
 use mathlib.Core.Bool.{Bool, true, false, cond, _||_, true≢false}
-use mathlib.Core.List.{List, [], _∷_}
+use mathlib.Core.List.{[], _∷_}
 use lib.Dec.{eqb}
 use lib.ListN.{List·getD-eq-default}
 use borrow.Author.Tests.{eqb-true}
@@ -208,6 +208,17 @@ name-end-phase o n e c =
 pub name-step : (extra : Extra) (c : ℕ) → stepIn extra 6 c ≡ cond (isToken c) 6 (nameEndIn c)
 name-step extra c = on-name extra c ∙ or-in-step isToken (nameEndIn c) c 6 (token-no-name-end c)
 
+-- either test leads to the phase of a bare value, in any order
+either-bare : (t x : Bool) (e : ℕ) → cond x 9 (cond t 9 e) ≡ cond t 9 (cond x 9 e)
+either-bare true true e = refl
+either-bare true false e = refl
+either-bare false x e = refl
+
+-- and one test does for both
+both-bare : (t x : Bool) (e : ℕ) → cond t 9 (cond x 9 e) ≡ cond (t || x) 9 e
+both-bare true x e = refl
+both-bare false x e = refl
+
 module _ (extra : Extra) (apart : Admissible extra) where
   -- a further octet is no token's, and none that may end a bare value
   further-no-end : (c : ℕ) → extra c ≡ true → cond (isToken c) 9 (linkEndIn 4 c) ≡ stuck
@@ -220,23 +231,12 @@ module _ (extra : Extra) (apart : Admissible extra) where
         extra-not-blank extra apart c e,
       ) refl
 
-  -- either test leads to the phase of a bare value
-  either-bare : (t x : Bool) (e : ℕ) → (x ≡ true → t ≡ false) → cond x 9 (cond t 9 e) ≡ cond t 9 (cond x 9 e)
-  either-bare true true e h = refl
-  either-bare true false e h = refl
-  either-bare false x e h = refl
-
   pub bare-step : (c : ℕ) → stepIn extra 9 c ≡ cond (isToken c) 9 (cond (extra c) 9 (linkEndIn 4 c))
   bare-step c =
       on-bare extra c
       ∙ ap (λ (e : ℕ). orIn extra e c 9) (or-in-step isToken (linkEndIn 4 c) c 9 (token-no-end 4 c))
       ∙ or-in-step extra (cond (isToken c) 9 (linkEndIn 4 c)) c 9 (further-no-end c)
-      ∙ either-bare (isToken c) (extra c) (linkEndIn 4 c) (apart .token c)
-
-  -- one test for both
-  both-bare : (t x : Bool) (e : ℕ) → cond t 9 (cond x 9 e) ≡ cond (t || x) 9 e
-  both-bare true x e = refl
-  both-bare false x e = refl
+      ∙ either-bare (isToken c) (extra c) (linkEndIn 4 c)
 
   phase-in : (st : State) (i c : ℕ) → stepIn extra (phaseOf st) c ≡ phaseOf (step extra st i c)
   phase-in (machine.gap ls) i c =

@@ -13,7 +13,6 @@ use Rattle.grammar.proofs.Classes.{plain-not-quote, plain-not-backslash}
 use Rattle.grammar.specs.Machine.{quote, escape, Open}
 use Rattle.cursor.specs.Passed.{Passed, Looked, LookedIn}
 use Rattle.scan_parts.specs.declared.Scan.the-variants.{Stuck}
-use Rattle.grammar.specs.Place.{MalformedAt}
 use Rattle.scan_parts.specs.Stands.{Stands}
 use Rattle.scan_parts.specs.Scanned.{InsideScanned, no-quote}
 use Rattle.scan_parts.proofs.Standing.{stands-on, halts}

@@ -10,7 +10,7 @@ use mathlib.Core.List.{List}
 use lib.Dec.{eqb}
 use Rattle.grammar.specs.Grammar.{Extra}
 use Rattle.grammar.specs.Records.{linkRoom, paramRoom}
-use Rattle.tables.specs.Table.{firstOf, countOf, linkAt, linksFrom, tableOf}
+use Rattle.tables.specs.Table.{firstOf, countOf, linksFrom, tableOf}
 use Rattle.tables.specs.Good.{Each, each-none, each-more, Follows, GoodLink, Good}
 use Rattle.tables.proofs.InGood.{head-of, tail-of, follows-le}
 use Rattle.records.specs.Slots.{IsLink, toLink}

@@ -1,23 +1,18 @@
 -- Written octets are derived again, and mean what was written.
-use Prim.Native.Nat.{ℕ, suc, _≤_, _<_}
-use native.Mathlib.Omega.{arith}
-use mathlib.Core.Path.{_≡_, refl, sym, ap, ap₂, subst, _∙_}
-use mathlib.Core.Bool.{Bool, true, false, cond, _&&_, _||_, false≢true}
+use Prim.Native.Nat.{ℕ, suc, _≤_}
+use mathlib.Core.Path.{_≡_, refl, sym, ap, ap₂, _∙_}
+use mathlib.Core.Bool.{Bool, true, false, cond, _||_, false≢true}
 use mathlib.Core.List.{List, [], _∷_, _++_, map, append-nil, append-assoc}
 use lib.Dec.{eqb}
 use lib.ListN.{length, drop}
-use lib.Seq.{slice}
-use borrow.Author.Tests.{eqb-true}
 use Rattle.octets.specs.Sets.{all, isBlank, isToken, isEscapable}
 use Rattle.octets.specs.Fold.{folded}
 use Rattle.octets.specs.Editions.{further}
 use Rattle.octets.specs.declared.editions.Edition.the-variants.{Rfc8288}
-use Rattle.octets.proofs.Octets.{both}
 use Rattle.grammar.specs.Link.{Link, Param}
 use Rattle.grammar.specs.Grammar
-use Rattle.grammar.specs.Grammar.{At, In, Run, run-end, run-more, Blanks, Token, Inside, Value, token, quoted}
+use Rattle.grammar.specs.Grammar.{run-end, run-more, Value, token, quoted}
 use Rattle.grammar.specs.Grammar.{
-  Parameter,
   valued,
   Parameters,
   no-more,
@@ -29,7 +24,6 @@ use Rattle.grammar.specs.Grammar.{
   Items,
   last,
   comma,
-  Field,
 }
 use Rattle.grammar.specs.Kept.{nameOf}
 use Rattle.grammar.proofs.Exact.{left-none}
@@ -54,7 +48,7 @@ use Rattle.tables.specs.Written.{
   written,
 }
 use Rattle.tables.proofs.Texts.{TargetText, unescape-plain}
-use Rattle.tables.proofs.Spelt.{Spells, Head, head, at, run-spells, target-spells, inside-spells, some-spells, is-in}
+use Rattle.tables.proofs.Spelt.{Head, head, at, target-spells, inside-spells, some-spells, is-in}
 
 -- ---- what can be written and read again
 

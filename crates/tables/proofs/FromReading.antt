@@ -1,20 +1,16 @@
 -- What is read is a good table.
-use Prim.Native.Nat.{ℕ, suc, _+_, _*_, _/_, _≤_, _<_}
+use Prim.Native.Nat.{ℕ}
 use native.Mathlib.Omega.{arith}
-use mathlib.Core.Path.{_≡_, refl, sym, ap, subst, _∙_}
-use mathlib.Core.Bool.{Bool, true, false, _&&_, _||_, not, true≢false}
-use mathlib.Core.List.{List, [], _∷_, _++_, map}
-use lib.ListN.{length, length-append}
+use mathlib.Core.Path.{_≡_, refl, sym, ap, _∙_}
+use mathlib.Core.Bool.{Bool, true, false, _&&_, _||_}
+use mathlib.Core.List.{List, [], _∷_, map}
+use lib.ListN.{length-append}
 use Rattle.octets.specs.Fold.{same}
 use Rattle.octets.proofs.Laws.{same-sound}
-use Rattle.octets.proofs.Octets.{both}
 use Rattle.grammar.specs.Link.{Link, Param}
 use Rattle.grammar.specs.Grammar
 use Rattle.grammar.specs.Grammar.{
   Extra,
-  Run,
-  run-end,
-  run-more,
   Token,
   Value,
   token,
@@ -28,8 +24,8 @@ use Rattle.grammar.specs.Grammar.{
   and-one,
 }
 use Rattle.grammar.specs.Grammar.{link, empty, one, Items, last, comma}
-use Rattle.grammar.specs.Kept.{nameOf, among, isOnce, unless, keepAfter, keptLink, Reading}
-use Rattle.grammar.specs.Records.{linkRecords, paramRecords, countParams}
+use Rattle.grammar.specs.Kept.{nameOf, among, isOnce, unless, keepAfter, keptLink}
+use Rattle.grammar.specs.Records.{linkRecords, paramRecords}
 use Rattle.grammar.proofs.Spans.{run-inside}
 use Rattle.tables.specs.Good.{
   Each,
@@ -37,16 +33,14 @@ use Rattle.tables.specs.Good.{
   each-more,
   onceEach,
   InText,
-  GoodValue,
   no-value,
   token-value,
   quoted-value,
   wider-value,
   GoodParam,
   GoodLink,
-  Good,
 }
-use Rattle.tables.specs.Laws.{filledTable, ReadTable, ReadGood}
+use Rattle.tables.specs.Laws.{ReadGood}
 use Rattle.tables.proofs.Texts.{run-le, inside-le, target-le, wider-run, wider-inside}
 use Rattle.tables.proofs.Filled.{filled-links, filled-follows, link-records-length, param-records-length}
 

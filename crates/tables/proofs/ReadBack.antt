@@ -1,15 +1,14 @@
 -- Reading back: what is written for a good table is derived again, keeps all its parameters, and means the same.
-use Prim.Native.Nat.{ℕ, zero, suc, _+_, _≤_, _<_}
+use Prim.Native.Nat.{ℕ, zero, suc, _+_, _≤_}
 use native.Mathlib.Nat.{zero-add}
 use native.Mathlib.Omega.{arith}
 use mathlib.Core.Path.{_≡_, refl, sym, ap, ap₂, subst, _∙_}
-use mathlib.Core.Bool.{Bool, true, false, cond, _&&_, _||_, not, false≢true}
+use mathlib.Core.Bool.{Bool, true, false, _&&_, _||_, not, false≢true}
 use mathlib.Core.List.{List, [], _∷_, map}
-use lib.Dec.{eqb}
 use lib.ListN.{length, getD, length-map}
 use lib.Seq.{slice, slice-empty, slice-cons}
 use Rattle.octets.specs.Sets.{all, isToken, isEscapable, isOlder}
-use Rattle.octets.specs.Fold.{fold, folded}
+use Rattle.octets.specs.Fold.{folded}
 use Rattle.octets.specs.Editions.{further}
 use Rattle.octets.specs.declared.editions.Edition.the-variants.{Rfc8288, Rfc5988}
 use Rattle.octets.proofs.Laws.{fold-token, token-plain, plain-escapable}
@@ -27,7 +26,6 @@ use Rattle.tables.specs.Good.{
   each-none,
   each-more,
   onceEach,
-  InText,
   GoodValue,
   no-value,
   token-value,
@@ -40,7 +38,6 @@ use Rattle.tables.specs.Good.{
 }
 use Rattle.tables.specs.Meaning.{
   unescape,
-  unescapeFrom,
   valueOf,
   ParamMeaning,
   paramMeaning,
@@ -53,7 +50,7 @@ use Rattle.tables.specs.Written.{written}
 use Rattle.tables.specs.Laws.{ReadsBack, ReadBack, WrittenTells}
 use Rattle.tables.proofs.Texts.{folded-folded, run-text, target-text, inside-text, run-le, wider-run}
 use Rattle.tables.proofs.GoodAlike.{good-alike}
-use Rattle.tables.proofs.Back.{NameText, name-text, ParamText, LinkText, LinksBack, links-back}
+use Rattle.tables.proofs.Back.{NameText, name-text, ParamText, LinkText, links-back}
 
 -- ---- the meanings of a good table can be written and read again
 

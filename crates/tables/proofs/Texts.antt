@@ -1,18 +1,16 @@
 -- What the octets of a good table's targets, names and values are, apart from where they stand.
-use Prim.Native.Nat.{ℕ, suc, _≤_, _<_}
+use Prim.Native.Nat.{ℕ, suc, _≤_}
 use native.Mathlib.Omega.{arith}
-use mathlib.Core.Path.{_≡_, refl, sym, ap, subst, _∙_}
-use mathlib.Core.Bool.{Bool, true, false, _&&_, _||_}
+use mathlib.Core.Path.{_≡_, refl, ap, _∙_}
+use mathlib.Core.Bool.{Bool, true, false, _||_}
 use mathlib.Core.List.{List, [], _∷_}
 use lib.Dec.{eqb}
 use lib.ListN.{length, getD}
 use lib.Seq.{slice, slice-empty, slice-cons}
-use Rattle.octets.specs.Sets.{all, isToken, isPlain, isEscapable, isTarget, isHex}
+use Rattle.octets.specs.Sets.{all, isToken, isEscapable, isTarget, isHex}
 use Rattle.octets.specs.Fold.{folded}
 use Rattle.octets.proofs.Laws.{plain-escapable, fold-fold}
 use Rattle.grammar.specs.Grammar.{
-  In,
-  At,
   Run,
   run-end,
   run-more,

@@ -1,6 +1,6 @@
 -- What is copied or written fits the buffer that holds it.
 use Prim.Native.Nat.{ℕ, _≤_}
-use mathlib.Core.List.{List, _++_}
+use mathlib.Core.List.{List}
 use native.Mathlib.Omega.{arith}
 use lib.ListN.{length, drop, length-append}
 use Rattle.tables.specs.Table.{Table}

@@ -1,5 +1,4 @@
 -- A part with a fault is refused, and one that leads on is stored.
-use Prim.Native.Nat.{ℕ, _+_}
 use native.Mathlib.Omega.{arith}
 use mathlib.Core.Path.{sym, ap, subst, _∙_}
 use lib.ListN.{length}
