@@ -3,13 +3,12 @@ use Prim.Native.Nat.{ℕ}
 use native.Mathlib.Omega.{arith}
 use mathlib.Core.Bool.{Bool, true, false, not, false≢true}
 use mathlib.Core.Path.{_≡_, refl, sym, subst}
-use Rattle.octets.specs.Sets.{isToken, isLetter, isDigit, isPlain, isOlder}
+use Rattle.octets.specs.Sets.{isToken, isLetter, isDigit, isPlain, olderOctets, isOlder}
 use Rattle.octets.specs.Editions.{numberOf, further, NoEdition, IsAsked}
 use Rattle.octets.specs.declared.editions.Edition.{Edition}
 use Rattle.octets.specs.declared.editions.Edition.the-variants.{Rfc8288, Rfc5988}
 use Rattle.octets.specs.declared.editions.Asked.{Asked}
 use Rattle.octets.specs.declared.editions.Asked.the-variants.{Known, Unknown}
-use Rattle.octets.proofs.Listed.{olderMarks}
 use Rattle.octets.proofs.Octets.{Octets, within, oneOf-octets}
 
 -- a number other than 0 and 1 is no edition's
@@ -26,7 +25,7 @@ one-edition Rfc5988 Rfc5988 q = refl
 
 pub older-octet : Octets isOlder
 unfolding isOlder
-older-octet = oneOf-octets olderMarks refl
+older-octet = oneOf-octets olderOctets refl
 
 -- an octet of the older edition is no token's, and stands for itself in a quoted string
 pub older-no-token : (c : ℕ) → isOlder c ≡ true → isToken c ≡ false

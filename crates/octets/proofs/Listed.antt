@@ -19,9 +19,6 @@ targetMarks = octets "-._~:/?#[]@!$&'()*+,;="
 abbrev pub plainMarks : List ℕ
 plainMarks = 9 ∷ 32 ∷ 33 ∷ []
 
-abbrev pub olderMarks : List ℕ
-olderMarks = octets "()/:<=>?@[]{}"
-
 -- `b | (c == x) | (c == y) | ..`, which groups to the left, where the definitions group to the right
 abbrev pub orOneOf : Bool → List ℕ → ℕ → Bool
 orOneOf b [] c = b

@@ -51,9 +51,12 @@ unfoldable pub isTarget : ℕ → Bool
 unfolding isLetter isDigit
 isTarget c = isLetter c || isDigit c || oneOf (octets "-._~:/?#[]@!$&'()*+,;=") c
 
--- an octet of RFC 5988's ptoken that no token has: what the older edition allows beside token octets in a bare value
+-- what RFC 5988's ptoken has beside a token's octets: what the older edition allows beside them in a bare value
+abbrev pub olderOctets : List ℕ
+olderOctets = octets "()/:<=>?@[]{}"
+
 unfoldable pub isOlder : ℕ → Bool
-isOlder c = oneOf (octets "()/:<=>?@[]{}") c
+isOlder c = oneOf olderOctets c
 
 -- an octet of a ptoken
 unfoldable pub isPtoken : ℕ → Bool
