@@ -1,16 +1,16 @@
 -- A part that is handed out lies in its source.
 use Prim.Native.Nat.{ℕ}
 use native.Mathlib.Omega.{arith}
-use mathlib.Core.Path.{_≡_, sym, _∙_}
+use mathlib.Core.Path.{_≡_}
 use mathlib.Core.List.{List}
+use Rattle.octets.specs.Text.{octets}
 use Rattle.octets.specs.declared.editions.Edition.{Edition}
-use Rattle.tables.specs.Table.{Table, linkAt}
+use Rattle.tables.specs.Table.{Table}
 use Rattle.tables.specs.Good.{InText}
 use Rattle.outcomes.specs.InEdition.{unknown, known}
 use Rattle.outcomes.specs.Usable.{Usable, refused, usable}
 use Rattle.outcomes.specs.Context.{ContextOut, ContextOf, Context, no-such-link, anchored, unanchored}
-use Rattle.tables.proofs.InGood.{good-link}
-use Rattle.named.proofs.ByName.{by-anchor, coded-each}
+use Rattle.tables.proofs.InGood.{good-link, named-each}
 use Rattle.answers.specs.Context.{contextNumbers}
 use Rattle.answers.specs.declared.context_answer.ContextNumbers.{ContextNumbers}
 use Rattle.capi.specs.ContextTold.{sourceOctets, ContextTold}
@@ -23,8 +23,7 @@ within-usable : {e : Edition} (t : Table) (base : List ℕ) (i : ℕ) {o : Conte
     → InText (sourceOctets (t .text) base (contextNumbers o .source)) (o .start) (o .end)
 within-usable t base i u (no-such-link h) = empty-part _
 within-usable t base i u (anchored h q) =
-    coded-each (t .text) 2 (good-link (u .good) h .params)
-    (sym (by-anchor (t .text) ((linkAt (t .linkSlots) (t .paramSlots) i) .params)) ∙ q) .value-span
+    named-each (t .text) (octets "anchor") (good-link (u .good) h .params) q .value-span
 within-usable t base i u (unanchored h q) = record { ordered = omega arith; inside = omega arith }
 
 within : {n : ℕ} (t : Table) (base : List ℕ) (i : ℕ) {o : ContextOut} → Context n t base i o

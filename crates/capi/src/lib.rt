@@ -171,7 +171,7 @@ pub extern "C" fn capstan_finish(
 pub extern "C" fn capstan_name_code(name: &[u8]) -> usize
     ensures { λ r. ⌜ r ≡ codeOf (folded (now (name .entry))) ⌝ }
 {
-    names::code_of(name) as usize
+    names::code_of(name)
 }
 
 // Compares two texts as names compare, and tells how many pairs of octets were compared.

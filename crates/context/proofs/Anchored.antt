@@ -10,9 +10,9 @@ use Rattle.octets.specs.declared.editions.Edition.the-variants.{Rfc5988}
 use Rattle.octets.proofs.Laws.{slice-take-drop}
 use Rattle.octets.specs.Text.{octets}
 use Rattle.kinds.specs.declared.Span.{Span}
-use Rattle.records.specs.Slots.{IsLink, toLink}
+use Rattle.records.specs.Slots.{IsLink}
 use Rattle.records.specs.declared.LinkRecord.{LinkRecord}
-use Rattle.records.specs.declared.ParamRecord.{ParamRecord}
+use Rattle.records.specs.declared.ParamParts.{ParamParts}
 use Rattle.tables.specs.Table.{Table}
 use Rattle.tables.specs.Relation.{named}
 use Rattle.outcomes.specs.Usable.{Usable}
@@ -23,10 +23,11 @@ use Rattle.answers.specs.Context.{contextOut}
 use Rattle.answers.specs.declared.Refusal.the-variants.{NoSuchLink}
 use Rattle.answers.specs.declared.context_answer.ContextAnswer.{ContextAnswer}
 use Rattle.answers.specs.declared.context_answer.ContextAnswer.the-variants.{Anchored, Base, Refused}
-use Rattle.named.specs.First.{Listed, FirstNamed, found}
+use Rattle.named.specs.First.{Listed, FirstCoded, found}
 use Rattle.named.specs.declared.Named.{Named}
 use Rattle.named.specs.declared.Named.the-variants.{Found, Absent}
-use Rattle.named.proofs.ByName.{by-anchor, coded-each}
+use Rattle.tables.proofs.InGood.{good-link, named-each}
+use Rattle.named.proofs.ByName.{by-anchor}
 use Rattle.named.proofs.Looking.{listed, own-params}
 use Rattle.context.specs.Part.{Within, IsAnchor, IsContext, beginsAt, HandsBack}
 
@@ -35,17 +36,17 @@ module _ {t : Table} {i : ℕ} (u : Usable Rfc5988 t) (l : i < t .linkCount) {r 
   pub listed-here : Listed (t .text) (t .paramSlots) r
   listed-here = listed (u .good) l is
 
-  module _ (a : Named) (first : FirstNamed (t .text) (t .paramSlots) r 2 a) where
+  module _ (a : Named) (first : FirstCoded (t .paramSlots) r 2 a) where
     is-found : anchor t i ≡ found a
     is-found =
         ap (named (t .text) (octets "anchor")) (own-params (t .paramSlots) is)
-        ∙ by-anchor (t .text) ((toLink (t .paramSlots) r) .params) ∙ first
+        ∙ by-anchor (t .text) (t .paramSlots) listed-here ∙ first
 
-    pub is-anchored : {p : ParamRecord} → a ≡ Found p → IsAnchor t i (Anchored (p .value))
+    pub is-anchored : {p : ParamParts} → a ≡ Found p → IsAnchor t i (Anchored (p .value))
     is-anchored e =
         record {
           outcome = λ base. anchored l (is-found ∙ ap found e);
-          within = coded-each (t .text) 2 (listed-here .params) (first ∙ ap found e) .value-span;
+          within = named-each (t .text) (octets "anchor") (good-link (u .good) l .params) (is-found ∙ ap found e) .value-span;
         }
 
     pub is-base : a ≡ Absent → IsAnchor t i Base

@@ -30,7 +30,7 @@ fn anchor_of(
         (link .0) r ⌝ }
 {
     let l = records::link_at(links, link);
-    let anchor = named::first_of(text, params, l, names::ANCHOR);
+    let anchor = named::first_of(params, l, names::ANCHOR);
     match anchor {
         Named::Found(param) => {
             let span = param.value;

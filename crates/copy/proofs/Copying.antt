@@ -11,7 +11,7 @@ use Rattle.kinds.specs.Put.{Put}
 use Rattle.kinds.proofs.Stores.{sets-front}
 use Rattle.records.specs.Slots.{IsLink, toParam}
 use Rattle.records.specs.declared.LinkRecord.{LinkRecord}
-use Rattle.records.specs.declared.ParamRecord.{ParamRecord}
+use Rattle.records.specs.declared.ParamParts.{ParamParts}
 use Rattle.tables.specs.Table.{Table, paramAt, firstOf, countOf}
 use Rattle.tables.specs.Good.{InText, GoodParam}
 use Rattle.tables.specs.Meaning.{valueOf}
@@ -31,18 +31,18 @@ module _ {t : Table} (u : Usable Rfc5988 t) {i j : ℕ} (l : i < t .linkCount) {
   in-room h = omega (arith, is .first, is .count, params-slots (u .good) l)
 
 -- the record p is that parameter's
-pub record AtIndex (t : Table) (i j : ℕ) (p : ParamRecord) : Type 0 where
+pub record AtIndex (t : Table) (i j : ℕ) (p : ParamParts) : Type 0 where
   pub usable : Usable Rfc5988 t
   pub is-link : i < t .linkCount
   pub is-param : j < countOf (t .linkSlots) i
   pub is : toParam p ≡ paramAt (t .paramSlots) (firstOf (t .linkSlots) i + j)
 
 pub at-index : {t : Table} → Usable Rfc5988 t → {i j : ℕ} → i < t .linkCount → {r : LinkRecord} → IsLink (t .linkSlots) i r → j < r .count
-    → {n : ℕ} → n ≡ r .first .0 + j → {p : ParamRecord} → toParam p ≡ paramAt (t .paramSlots) n → AtIndex t i j p
+    → {n : ℕ} → n ≡ r .first .0 + j → {p : ParamParts} → toParam p ≡ paramAt (t .paramSlots) n → AtIndex t i j p
 at-index u l is h q e =
     record { usable = u; is-link = l; is-param = omega (arith, is .count); is = rw (q, is .first) at e }
 
-module _ {t : Table} {i j : ℕ} {p : ParamRecord} (w : AtIndex t i j p) where
+module _ {t : Table} {i j : ℕ} {p : ParamParts} (w : AtIndex t i j p) where
   good-there : GoodParam (further Rfc5988) (t .text) (toParam p)
   good-there = rw (w .is) (good-param (w .usable .good) (w .is-link) (w .is-param))
 

@@ -36,7 +36,7 @@ fn copy_at(
     if index >= l.count {
         return LengthAnswer::Refused(Refusal::NotFound);
     }
-    let p = records::param_at(params, l.first.plus(index));
+    let p = records::parts_at(params, l.first.plus(index));
     let part = p.value;
     let n = meaning_len(text, part);
     if n > out.len() {

@@ -54,12 +54,12 @@ ordered-more s l ls = ap (map (keptLink s)) (reverse-cons l ls) ∙ map-append (
 -- both tables hold the records of the links ls, held last first
 pub record LinksHeld (s L₀ P₀ : List ℕ) (ls : List Link) (L P : List ℕ) : Type 0 where
   pub link-slots : L ≡ sets L₀ 0 (linkRecords 0 (ordered s ls))
-  pub param-slots : P ≡ sets P₀ 0 (paramRecords (ordered s ls))
+  pub param-slots : P ≡ sets P₀ 0 (paramRecords s (ordered s ls))
 
 held-lengths : {s L₀ P₀ L P : List ℕ} {ls : List Link} → LinksHeld s L₀ P₀ ls L P → (length L ≡ length L₀) × (length P ≡ length P₀)
 held-lengths {s} {L₀} {P₀} {ls = ls} h = (
   ap length (h .link-slots) ∙ length-sets L₀ 0 (linkRecords 0 (ordered s ls)),
-  ap length (h .param-slots) ∙ length-sets P₀ 0 (paramRecords (ordered s ls)),
+  ap length (h .param-slots) ∙ length-sets P₀ 0 (paramRecords s (ordered s ls)),
 )
 
 -- n slots stored from the first on
@@ -90,7 +90,7 @@ module _ {extra : Extra} {s L₀ P₀ : List ℕ} (fits : ReadingFits extra s L�
             (omega (arith, fits .link-room, ap length same));
         params =
             h .param-slots
-            ∙ front P₀ (paramRecords K) (paramWidth * countParams K) (param-records-length K)
+            ∙ front P₀ (paramRecords s K) (paramWidth * countParams K) (param-records-length s K)
             (omega (arith, fits .param-room, ap countParams same));
       }
 
@@ -184,13 +184,13 @@ module _ {extra : Extra} {s L₀ P₀ : List ℕ} (fits : ReadingFits extra s L�
               (ap (linkRecords 0) (ordered-more s link (w .links))
               ∙ link-records-append 0 (ordered s (w .links)) (keptLink s link ∷ []))
 
-          params-more : paramRecords (ordered s (w .links)) ++ recordsOf kept ≡ paramRecords (ordered s (link ∷ w .links))
+          params-more : paramRecords s (ordered s (w .links)) ++ recordsOf s kept ≡ paramRecords s (ordered s (link ∷ w .links))
           unfolding link kept
           params-more =
-              ap (λ (x : List ℕ). paramRecords (ordered s (w .links)) ++ x) (sym (append-nil (recordsOf kept)))
+              ap (λ (x : List ℕ). paramRecords s (ordered s (w .links)) ++ x) (sym (append-nil (recordsOf s kept)))
               ∙ sym
-              (ap paramRecords (ordered-more s link (w .links))
-              ∙ param-records-append (ordered s (w .links)) (keptLink s link ∷ []))
+              (ap (paramRecords s) (ordered-more s link (w .links))
+              ∙ param-records-append s (ordered s (w .links)) (keptLink s link ∷ []))
 
           held-more : LinksHeld s L₀ P₀ (link ∷ w .links) L′ P′
           unfolding numbers kept
@@ -199,16 +199,16 @@ module _ {extra : Extra} {s L₀ P₀ : List ℕ} (fits : ReadingFits extra s L�
               let at : linkWidth * n ≡ 0 + length (linkRecords 0 K) =
               omega (arith, link-records-length 0 K, ordered-length s (w .links), w .link-number)
               in
-              let to : paramWidth * m ≡ 0 + length (paramRecords K) =
-              omega (arith, param-records-length K, ordered-count s (w .links), w .param-number)
+              let to : paramWidth * m ≡ 0 + length (paramRecords s K) =
+              omega (arith, param-records-length s K, ordered-count s (w .links), w .param-number)
               in
               record {
                 link-slots =
                     f .links-written ∙ ap₂ (λ (t : List ℕ) (g : ℕ). sets t g numbers) (w .held .link-slots) at
                     ∙ sym (sets-append L₀ 0 (linkRecords 0 K) numbers) ∙ ap (sets L₀ 0) links-more;
                 param-slots =
-                    f .params-written ∙ ap₂ (λ (t : List ℕ) (g : ℕ). sets t g (recordsOf kept)) (w .held .param-slots) to
-                    ∙ sym (sets-append P₀ 0 (paramRecords K) (recordsOf kept)) ∙ ap (sets P₀ 0) params-more;
+                    f .params-written ∙ ap₂ (λ (t : List ℕ) (g : ℕ). sets t g (recordsOf s kept)) (w .held .param-slots) to
+                    ∙ sym (sets-append P₀ 0 (paramRecords s K) (recordsOf s kept)) ∙ ap (sets P₀ 0) params-more;
               }
 
           pub filled-behind : length s ≤ d → TablesFilled extra s L₀ L′ P₀ P′

@@ -17,8 +17,8 @@ use Rattle.grammar.specs.Kept.{nameOf, among, isOnce, unless, keepAfter, codeOf
 use Rattle.grammar.specs.Records.{paramWidth, paramRoom, recordsOf}
 use Rattle.grammar.specs.Machine.{semi}
 use Rattle.kinds.proofs.Stores.{sets-append}
-use Rattle.records.specs.declared.ParamRecord.{ParamRecord}
-use Rattle.records.specs.Slots.{toParam}
+use Rattle.records.specs.declared.ParamParts.{ParamParts}
+use Rattle.records.specs.Slots.{toParam, paramNumbers}
 use Rattle.cursor.specs.Passed.{Passed, Looked}
 use Rattle.names.specs.declared.Seen.{Seen}
 use Rattle.names.specs.Remembers.{noneSeen, hasCode, withCode}
@@ -31,14 +31,9 @@ use Rattle.scanner.proofs.KeptMore.{keep-more}
 use Rattle.scanner.proofs.ReadyBehindParams.{holding, chain-ready, ready-blanks, ready-semi}
 use Rattle.scanner.proofs.ParamsSoFar.{ParamsSoFar, begin, more}
 use Rattle.known.specs.Known.{KnownParam}
-use Rattle.tables.proofs.Filled.{records-length}
+use Rattle.tables.proofs.Filled.{records-length, records-append}
 use Rattle.filling.specs.Filling.{KeptOnce, BeforeParams, ParamsFilled}
 use Rattle.filling.proofs.PartOfReading.{part-params, ready-ends}
-
-records-append : (xs ys : List Param) → recordsOf (xs ++ ys) ≡ recordsOf xs ++ recordsOf ys
-records-append [] ys = refl
-records-append (x ∷ xs) ys =
-    ap (λ (r : List ℕ). x .nameFrom ∷ x .nameTo ∷ x .valueFrom ∷ x .valueTo ∷ x .form ∷ r) (records-append xs ys)
 
 -- from place a, with the next number m and the table `old`: at place i the next number is n, and the table is `new`
 pub record ParamsWritten (extra : Extra) (s : List ℕ) (a m : ℕ) (old : List ℕ) (i n : ℕ) (x : Seen) (new : List ℕ) : Type 0 where
@@ -46,7 +41,7 @@ pub record ParamsWritten (extra : Extra) (s : List ℕ) (a m : ℕ) (old : List 
   pub params : List Param
   pub along : ParamsSoFar extra s a i count x params
   pub number : n ≡ m + count
-  pub written : new ≡ sets old (paramWidth * m) (recordsOf (keepAfter s [] (reverse params)))
+  pub written : new ≡ sets old (paramWidth * m) (recordsOf s (keepAfter s [] (reverse params)))
 
 module _ {extra : Extra} {s old : List ℕ} {a m : ℕ} (b : BeforeParams extra s old a m) where
   pub written-begin : {x : Seen} → a ≤ length s → x ≡ noneSeen → ParamsWritten extra s a m old a m x old
@@ -95,10 +90,10 @@ module _ {extra : Extra} {s old : List ℕ} {a m : ℕ} (b : BeforeParams extra 
 
   pub written-length : {i n : ℕ} {x : Seen} {new : List ℕ} (w : ParamsWritten extra s a m old i n x new) → length new ≡ length old
   written-length w =
-      ap length (w .written) ∙ length-sets old (paramWidth * m) (recordsOf (keepAfter s [] (reverse (w .params))))
+      ap length (w .written) ∙ length-sets old (paramWidth * m) (recordsOf s (keepAfter s [] (reverse (w .params))))
 
   -- one parameter more
-  module _ {i j k e n c d : ℕ} {x : Seen} {new : List ℕ} {r : ParamRecord} {z : Bool} (w : ParamsWritten extra s a m old i n x new)
+  module _ {i j k e n c d : ℕ} {x : Seen} {new : List ℕ} {r : ParamParts} {z : Bool} (w : ParamsWritten extra s a m old i n x new)
       (p : Passed isBlank s i j) (q : At s j 59) (l : k ≡ j + 1) (v : Passed isBlank s k e) (f : Parsed extra s e (toParam r) d)
       (h : c ≡ codeOf (folded (slice (r .name .from .0) (r .name .to .0) s))) (o : z ≡ hasCode x c) where
     along-more : ParamsSoFar extra s a d (w .count + cond z 0 1) (withCode x c) (toParam r ∷ w .params)
@@ -118,20 +113,25 @@ module _ {extra : Extra} {s old : List ℕ} {a m : ℕ} (b : BeforeParams extra 
     kept = keepAfter s [] (reverse (w .params))
 
     records-more : (b : Bool)
-        → cond b new (sets new (paramWidth * n) (recordsOf (toParam r ∷ [])))
-        ≡ sets old (paramWidth * m) (recordsOf (kept ++ unless b (toParam r) []))
+        → cond b new (sets new (paramWidth * n) (recordsOf s (toParam r ∷ [])))
+        ≡ sets old (paramWidth * m) (recordsOf s (kept ++ unless b (toParam r) []))
     unfolding kept
     records-more true =
-        w .written ∙ ap (λ (ks : List Param). sets old (paramWidth * m) (recordsOf ks)) (sym (append-nil kept))
+        w .written ∙ ap (λ (ks : List Param). sets old (paramWidth * m) (recordsOf s ks)) (sym (append-nil kept))
     records-more false =
-        let at : paramWidth * n ≡ paramWidth * m + length (recordsOf kept) =
-        omega (arith, w .number, w .along .kept, records-length kept)
+        let at : paramWidth * n ≡ paramWidth * m + length (recordsOf s kept) =
+        omega (arith, w .number, w .along .kept, records-length s kept)
         in
-        ap₂ (λ (t : List ℕ) (g : ℕ). sets t g (recordsOf (toParam r ∷ []))) (w .written) at
-        ∙ sym (sets-append old (paramWidth * m) (recordsOf kept) (recordsOf (toParam r ∷ [])))
-        ∙ ap (sets old (paramWidth * m)) (sym (records-append kept (toParam r ∷ [])))
+        ap₂ (λ (t : List ℕ) (g : ℕ). sets t g (recordsOf s (toParam r ∷ []))) (w .written) at
+        ∙ sym (sets-append old (paramWidth * m) (recordsOf s kept) (recordsOf s (toParam r ∷ [])))
+        ∙ ap (sets old (paramWidth * m)) (sym (records-append s kept (toParam r ∷ [])))
 
-    pub written-on : {n′ : ℕ} {y : Seen} {new′ : List ℕ} → KeptOnce z r n n′ new new′ → y ≡ withCode x c
+    -- its record, with the code of its name
+    numbers : paramNumbers (record { parts = r; code = c }) ≡ recordsOf s (toParam r ∷ [])
+    unfolding nameOf
+    numbers = rw h
+
+    pub written-on : {n′ : ℕ} {y : Seen} {new′ : List ℕ} → KeptOnce z (record { parts = r; code = c }) n n′ new new′ → y ≡ withCode x c
         → ParamsWritten extra s a m old d n′ y new′
     unfolding kept
     written-on t y =
@@ -141,7 +141,7 @@ module _ {extra : Extra} {s old : List ℕ} {a m : ℕ} (b : BeforeParams extra 
           along = subst (λ (g : Seen). ParamsSoFar extra s a d (w .count + cond z 0 1) g (toParam r ∷ w .params)) (sym y) along-more;
           number = t .next ∙ ap (λ (g : ℕ). g + cond z 0 1) (w .number) ∙ add-assoc m (w .count) (cond z 0 1);
           written =
-              t .written ∙ records-more z
-              ∙ ap (λ (g : Bool). sets old (paramWidth * m) (recordsOf (kept ++ unless g (toParam r) []))) told
-              ∙ ap (λ (ks : List Param). sets old (paramWidth * m) (recordsOf ks)) (sym (keep-more s (toParam r) (w .params)));
+              t .written ∙ ap (λ (ns : List ℕ). cond z new (sets new (paramWidth * n) ns)) numbers ∙ records-more z
+              ∙ ap (λ (g : Bool). sets old (paramWidth * m) (recordsOf s (kept ++ unless g (toParam r) []))) told
+              ∙ ap (λ (ks : List Param). sets old (paramWidth * m) (recordsOf s ks)) (sym (keep-more s (toParam r) (w .params)));
         }

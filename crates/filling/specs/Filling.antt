@@ -39,7 +39,7 @@ pub record TablesFilled (extra : Extra) (s L L′ P P′ : List ℕ) : Type 0 wh
   pub reading : List Link
   pub reads : Reading extra s reading
   pub links : L′ ≡ linkRecords 0 reading ++ drop (linkWidth * length reading) L
-  pub params : P′ ≡ paramRecords reading ++ drop (paramWidth * countParams reading) P
+  pub params : P′ ≡ paramRecords s reading ++ drop (paramWidth * countParams reading) P
 
 -- the record r was written at number m unless its name stood before, and the next number is n
 pub record KeptOnce (again : Bool) (r : ParamRecord) (m n : ℕ) (P P′ : List ℕ) : Type 0 where
@@ -65,7 +65,7 @@ pub record ParamsFilled (extra : Extra) (s : List ℕ) (a j m n : ℕ) (P P′ :
   pub blanks : Passed isBlank s end j
   pub ends : (length s ≤ j) ⊎ At s j 44
   pub next : n ≡ m + length (keepAfter s [] (reverse params))
-  pub written : P′ ≡ sets P (paramWidth * m) (recordsOf (keepAfter s [] (reverse params)))
+  pub written : P′ ≡ sets P (paramWidth * m) (recordsOf s (keepAfter s [] (reverse params)))
 
 -- before a link, behind its `<`: the links held have been read, the last first, and the next numbers are n and m
 pub record BeforeLink (extra : Extra) (s L P : List ℕ) (a n m : ℕ) : Type 0 where
@@ -84,4 +84,4 @@ pub record LinkFilled (extra : Extra) (s : List ℕ) (a j n m k : ℕ) (L L′ P
   pub link : WholeLink extra s a j count
   pub next : k ≡ m + count
   pub links-written : L′ ≡ sets L (linkWidth * n) (a ∷ link .close ∷ m ∷ count ∷ [])
-  pub params-written : P′ ≡ sets P (paramWidth * m) (recordsOf (keepAfter s [] (reverse (link .rest .params))))
+  pub params-written : P′ ≡ sets P (paramWidth * m) (recordsOf s (keepAfter s [] (reverse (link .rest .params))))

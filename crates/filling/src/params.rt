@@ -51,9 +51,10 @@ pub fn fill_params(
             return Behind { cursor: i, next: n };
         }
         let p = read_param(edition, s, i.past_octet(s).past_blanks(s));
-        let r = p.record;
-        let name = r.name;
+        let parts = p.parts;
+        let name = parts.name;
         let code = names::code(s, name);
+        let r = ParamRecord { parts, code };
         n = keep(params, n, r, seen.has(code));
         seen = seen.with(code);
         c = p.next;

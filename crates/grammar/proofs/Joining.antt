@@ -9,7 +9,7 @@ use lib.ListN.{length, length-append, length-map}
 use Rattle.octets.specs.Fold.{folded}
 use Rattle.grammar.specs.Link.{Link, Param}
 use Rattle.grammar.specs.Grammar.{Extra, Admissible}
-use Rattle.grammar.specs.Kept.{nameOf, among, isOnce, unless, keepAfter, keptLink, Reading}
+use Rattle.grammar.specs.Kept.{nameOf, among, codeOf, isOnce, unless, keepAfter, keptLink, Reading}
 use Rattle.grammar.specs.Records.{linkRecords, recordsOf, paramRecords, countParams}
 use Rattle.grammar.specs.Join.{
   Padded,
@@ -61,6 +61,40 @@ module _ (u s v : List ℕ) where
       record { targetFrom = length u + l .targetFrom; targetTo = length u + l .targetTo; params = ps } ∷ ms)
       (keep-raised [] h) (kept-raised r)
 
+  -- ---- records of kept parameters
+
+  names-kept : {ps : List Param} (n : ℕ) (earlier : List (List ℕ)) → NamesIn n ps → NamesIn n (keepAfter s earlier ps)
+  names-kept n earlier no-names = no-names
+  names-kept n earlier (name-in {p = p} {ps = ps} h r) =
+      go (isOnce (nameOf s p) && among earlier (nameOf s p)) (names-kept n (nameOf s p ∷ earlier) r)
+    where
+      go : (b : Bool) → NamesIn n (keepAfter s (nameOf s p ∷ earlier) ps) → NamesIn n (unless b p (keepAfter s (nameOf s p ∷ earlier) ps))
+      go true k = k
+      go false k = name-in h k
+
+  -- places rise, and the codes are of the same names
+  params-raised : {ps : List Param} (rs : List ℕ) → NamesIn (length s) ps
+      → raiseParams (length u) (recordsOf s ps ++ rs) ≡ recordsOf wide (map (raiseParam (length u)) ps) ++ raiseParams (length u) rs
+  params-raised rs no-names = refl
+  params-raised rs (name-in {p = p} {ps = ps} h r) =
+      rw (name-raised p h)
+      (ap
+      (λ (x : List ℕ).
+      (length u + p .nameFrom) ∷ (length u + p .nameTo) ∷ (length u + p .valueFrom) ∷ (length u + p .valueTo) ∷ p .form
+      ∷ codeOf (nameOf s p) ∷ x)
+      (params-raised rs r))
+
+  param-records-raised : {ls : List Link} → AllNamesIn (length s) ls
+      → paramRecords wide (map (raiseLink (length u)) (map (keptLink s) ls)) ≡ raiseParams (length u) (paramRecords s (map (keptLink s) ls))
+  param-records-raised no-links = refl
+  param-records-raised (link-in {l = l} {ls = ls} h r) =
+      ap (λ (x : List ℕ). recordsOf wide (map (raiseParam (length u)) (keepAfter s [] (l .params))) ++ x) (param-records-raised r)
+      ∙ sym (params-raised (paramRecords s (map (keptLink s) ls)) (names-kept (length s) [] h))
+
+-- what stands before the next header of the join: u, a header padded, and the comma
+before-next : (u p : List ℕ) {k : ℕ} → length u ≡ k → length (u ++ p ++ (44 ∷ [])) ≡ k + length p + 1
+before-next u p h = omega (arith, length-append (u ++ p) (44 ∷ []), length-append u p)
+
 module _ (extra : Extra) (apart : Admissible extra) where
   -- the links of the join, with their kept parameters
   joinedKept : ℕ → List (Readable extra) → List Link
@@ -85,13 +119,10 @@ module _ (extra : Extra) (apart : Admissible extra) where
       ∙ ap (λ (x : List Link). x ++ []) (kept-one w u (a .pad .right) a k (e ∙ simp append-assoc) h)
   kept-all (a ∷ b ∷ hs) w u k e h =
       let J = join (pads extra apart (b ∷ hs)) in
-      let u′ = u ++ padded (a .pad) ++ (44 ∷ []) in
-      let n : length u′ ≡ k + length (padded (a .pad)) + 1 =
-      omega (arith, length-append (u ++ padded (a .pad)) (44 ∷ []), length-append u (padded (a .pad)))
-      in
       map-append (keptLink w) (map (raiseLink (k + length (a .pad .left))) (a .reads .links)) _
       ∙ ap₂ (λ (x y : List Link). x ++ y) (kept-one w u (a .pad .right ++ 44 ∷ J) a k (e ∙ simp append-assoc) h)
-      (kept-all (b ∷ hs) w u′ (k + length (padded (a .pad)) + 1) (e ∙ simp append-assoc) n)
+      (kept-all (b ∷ hs) w (u ++ padded (a .pad) ++ (44 ∷ [])) (k + length (padded (a .pad)) + 1) (e ∙ simp append-assoc)
+      (before-next u (padded (a .pad)) h))
 
 -- ---- records
 
@@ -102,21 +133,6 @@ link-records-raised k m n (l ∷ ls) =
     rw (length-map (l .params) (raiseParam k), add-assoc m n (length (l .params)))
     (ap (λ (x : List ℕ). (k + l .targetFrom) ∷ (k + l .targetTo) ∷ (m + n) ∷ length (l .params) ∷ x)
     (link-records-raised k m (n + length (l .params)) ls))
-
-params-raised : (k : ℕ) (ps : List Param) (rs : List ℕ)
-    → raiseParams k (recordsOf ps ++ rs) ≡ recordsOf (map (raiseParam k) ps) ++ raiseParams k rs
-params-raised k [] rs = refl
-params-raised k (p ∷ ps) rs =
-    ap
-    (λ (x : List ℕ).
-    (k + p .nameFrom) ∷ (k + p .nameTo) ∷ (k + p .valueFrom) ∷ (k + p .valueTo) ∷ p .form ∷ x)
-    (params-raised k ps rs)
-
-param-records-raised : (k : ℕ) (ls : List Link) → paramRecords (map (raiseLink k) ls) ≡ raiseParams k (paramRecords ls)
-param-records-raised k [] = refl
-param-records-raised k (l ∷ ls) =
-    ap (λ (x : List ℕ). recordsOf (map (raiseParam k) (l .params)) ++ x) (param-records-raised k ls)
-    ∙ sym (params-raised k (l .params) (paramRecords ls))
 
 param-count-raised : (k : ℕ) (ls : List Link) → countParams (map (raiseLink k) ls) ≡ countParams ls
 param-count-raised k [] = refl
@@ -130,11 +146,11 @@ link-records-append n (l ∷ ls) ms =
     (ap (λ (x : List ℕ). l .targetFrom ∷ l .targetTo ∷ n ∷ length (l .params) ∷ x)
     (link-records-append (n + length (l .params)) ls ms))
 
-pub param-records-append : (ls ms : List Link) → paramRecords (ls ++ ms) ≡ paramRecords ls ++ paramRecords ms
-param-records-append [] ms = refl
-param-records-append (l ∷ ls) ms =
-    ap (λ (x : List ℕ). recordsOf (l .params) ++ x) (param-records-append ls ms)
-    ∙ sym (append-assoc (recordsOf (l .params)) (paramRecords ls) (paramRecords ms))
+pub param-records-append : (s : List ℕ) (ls ms : List Link) → paramRecords s (ls ++ ms) ≡ paramRecords s ls ++ paramRecords s ms
+param-records-append s [] ms = refl
+param-records-append s (l ∷ ls) ms =
+    ap (λ (x : List ℕ). recordsOf s (l .params) ++ x) (param-records-append s ls ms)
+    ∙ sym (append-assoc (recordsOf s (l .params)) (paramRecords s ls) (paramRecords s ms))
 
 pub param-count-append : (ls ms : List Link) → countParams (ls ++ ms) ≡ countParams ls + countParams ms
 param-count-append [] ms = sym (zero-add (countParams ms))
@@ -154,14 +170,27 @@ module _ (extra : Extra) (apart : Admissible extra) where
       (param-count-raised j (a .reading))
       ∙ joined-links (k + length (padded (a .pad)) + 1) (m + countParams (a .reading)) hs)
 
-  joined-params : (k : ℕ) (hs : List (Readable extra)) → paramRecords (joinedKept extra apart k hs) ≡ joinedParams extra k hs
+  params-one : (w u v : List ℕ) (a : Readable extra) (k : ℕ) → w ≡ u ++ a .pad .left ++ (a .pad .header ++ v) → length u ≡ k
+      → paramRecords w (map (raiseLink (k + length (a .pad .left))) (a .reading))
+      ≡ raiseParams (k + length (a .pad .left)) (paramRecords (a .pad .header) (a .reading))
+  params-one w u v a k e h =
+      let n : k + length (a .pad .left) ≡ length (u ++ a .pad .left) = omega (arith, length-append u (a .pad .left)) in
+      rw (n, e, a .reads .kept)
+      (param-records-raised (u ++ a .pad .left) (a .pad .header) v (items-inside extra (a .pad .header) (a .reads .derived .items)))
+
+  joined-params : (hs : List (Readable extra)) (w u : List ℕ) (k : ℕ) → w ≡ u ++ join (pads extra apart hs) → length u ≡ k
+      → paramRecords w (joinedKept extra apart k hs) ≡ joinedParams extra k hs
   unfolding joinedKept
-  joined-params k [] = refl
-  joined-params k (a ∷ hs) =
-      let j = k + length (a .pad .left) in
-      param-records-append (map (raiseLink j) (a .reading)) _
-      ∙ ap₂ (λ (x y : List ℕ). x ++ y) (param-records-raised j (a .reading))
-      (joined-params (k + length (padded (a .pad)) + 1) hs)
+  joined-params [] w u k e h = refl
+  joined-params (a ∷ []) w u k e h =
+      param-records-append w (map (raiseLink (k + length (a .pad .left))) (a .reading)) []
+      ∙ ap (λ (x : List ℕ). x ++ []) (params-one w u (a .pad .right) a k (e ∙ simp append-assoc) h)
+  joined-params (a ∷ b ∷ hs) w u k e h =
+      let J = join (pads extra apart (b ∷ hs)) in
+      param-records-append w (map (raiseLink (k + length (a .pad .left))) (a .reading)) _
+      ∙ ap₂ (λ (x y : List ℕ). x ++ y) (params-one w u (a .pad .right ++ 44 ∷ J) a k (e ∙ simp append-assoc) h)
+      (joined-params (b ∷ hs) w (u ++ padded (a .pad) ++ (44 ∷ [])) (k + length (padded (a .pad)) + 1) (e ∙ simp append-assoc)
+      (before-next u (padded (a .pad)) h))
 
   joined-link-count : (k : ℕ) (hs : List (Readable extra)) → length (joinedKept extra apart k hs) ≡ linkSum extra hs
   unfolding joinedKept
@@ -194,7 +223,7 @@ joins extra apart hs =
             kept = sym (kept-all extra apart hs (join (pads extra apart hs)) [] 0 refl refl);
           };
       link-records = joined-links extra apart 0 0 hs;
-      param-records = joined-params extra apart 0 hs;
+      param-records = joined-params extra apart hs (join (pads extra apart hs)) [] 0 refl refl;
       link-count = joined-link-count extra apart 0 hs;
       param-count = joined-param-count extra apart 0 hs;
     }

@@ -28,7 +28,7 @@ join (p ∷ []) = padded p
 join (p ∷ q ∷ ps) = padded p ++ 44 ∷ join (q ∷ ps)
 
 -- Records of a header whose octets begin at place k of the join, and whose parameters at number m: octet places are raised by k,
--- numbers of a first parameter by m, and all else is unchanged.
+-- numbers of a first parameter by m, and all else, forms and codes among it, is unchanged.
 abbrev pub raiseLinks : ℕ → ℕ → List ℕ → List ℕ
 raiseLinks k m [] = []
 raiseLinks k m (a ∷ []) = []
@@ -42,7 +42,8 @@ raiseParams k (a ∷ []) = []
 raiseParams k (a ∷ b ∷ []) = []
 raiseParams k (a ∷ b ∷ c ∷ []) = []
 raiseParams k (a ∷ b ∷ c ∷ d ∷ []) = []
-raiseParams k (a ∷ b ∷ c ∷ d ∷ f ∷ rs) = (k + a) ∷ (k + b) ∷ (k + c) ∷ (k + d) ∷ f ∷ raiseParams k rs
+raiseParams k (a ∷ b ∷ c ∷ d ∷ f ∷ []) = []
+raiseParams k (a ∷ b ∷ c ∷ d ∷ f ∷ n ∷ rs) = (k + a) ∷ (k + b) ∷ (k + c) ∷ (k + d) ∷ f ∷ n ∷ raiseParams k rs
 
 module _ (extra : Extra) where
   -- a header of a join, with the reading that it has by itself, limits of length and room aside
@@ -61,7 +62,7 @@ module _ (extra : Extra) where
   abbrev pub joinedParams : ℕ → List Readable → List ℕ
   joinedParams k [] = []
   joinedParams k (a ∷ hs) =
-      raiseParams (k + length (a .pad .left)) (paramRecords (a .reading))
+      raiseParams (k + length (a .pad .left)) (paramRecords (a .pad .header) (a .reading))
       ++ joinedParams (k + length (padded (a .pad)) + 1) hs
 
   -- the sums of the counts
@@ -78,6 +79,6 @@ module _ (extra : Extra) where
     pub links : List Link
     pub reads : Reading extra (join (map (λ (a : Readable). a .pad) hs)) links
     pub link-records : linkRecords 0 links ≡ joinedLinks 0 0 hs
-    pub param-records : paramRecords links ≡ joinedParams 0 hs
+    pub param-records : paramRecords (join (map (λ (a : Readable). a .pad) hs)) links ≡ joinedParams 0 hs
     pub link-count : length links ≡ linkSum hs
     pub param-count : countParams links ≡ paramSum hs

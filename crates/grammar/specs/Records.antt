@@ -3,13 +3,14 @@ use Prim.Native.Nat.{ℕ, _+_, _/_}
 use mathlib.Core.List.{List, [], _∷_, _++_}
 use lib.ListN.{length}
 use Rattle.grammar.specs.Link.{Link, Param}
+use Rattle.grammar.specs.Kept.{nameOf, codeOf}
 
 -- how many numbers a link record has, and a parameter record
 abbrev pub linkWidth : ℕ
 linkWidth = 4
 
 abbrev pub paramWidth : ℕ
-paramWidth = 5
+paramWidth = 6
 
 -- Room: the slots lent, divided by the numbers of a record and rounded down.
 abbrev pub linkRoom : List ℕ → ℕ
@@ -30,11 +31,12 @@ linkRecords n [] = []
 linkRecords n (l ∷ ls) =
     l .targetFrom ∷ l .targetTo ∷ n ∷ length (l .params) ∷ linkRecords (n + length (l .params)) ls
 
--- parameter records: name start, name end, value start, value end, form
-abbrev pub recordsOf : List Param → List ℕ
-recordsOf [] = []
-recordsOf (p ∷ ps) = p .nameFrom ∷ p .nameTo ∷ p .valueFrom ∷ p .valueTo ∷ p .form ∷ recordsOf ps
+-- parameter records, of parameters that stand in the text s: name start, name end, value start, value end, form, the code of the name
+abbrev pub recordsOf : List ℕ → List Param → List ℕ
+recordsOf s [] = []
+recordsOf s (p ∷ ps) =
+    p .nameFrom ∷ p .nameTo ∷ p .valueFrom ∷ p .valueTo ∷ p .form ∷ codeOf (nameOf s p) ∷ recordsOf s ps
 
-abbrev pub paramRecords : List Link → List ℕ
-paramRecords [] = []
-paramRecords (l ∷ ls) = recordsOf (l .params) ++ paramRecords ls
+abbrev pub paramRecords : List ℕ → List Link → List ℕ
+paramRecords s [] = []
+paramRecords s (l ∷ ls) = recordsOf s (l .params) ++ paramRecords s ls

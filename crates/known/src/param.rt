@@ -6,17 +6,17 @@ ghost use Rattle.known.specs.Known.{KnownParam};
 use crate::value::read_value;
 use cursor::Cursor;
 use octets::editions::Edition;
-use records::ParamRecord;
+use records::ParamParts;
 
-// A parameter's record, and the cursor behind it.
+// A parameter's parts, and the cursor behind it.
 pub struct ParamRead {
-    pub record: ParamRecord,
+    pub parts: ParamParts,
     pub next: Cursor,
 }
 
 pub fn read_param(edition: Edition, s: &[u8], from: Cursor) -> ParamRead
     requires { ⌜ KnownParam (further edition) (now s) (from .at .0) ⌝ }
-    ensures { λ r. ⌜ Parsed (further edition) (now (s .entry)) (from .at .0) (toParam (r .record)) (r .next .at .0) ⌝ }
+    ensures { λ r. ⌜ Parsed (further edition) (now (s .entry)) (from .at .0) (toParam (r .parts)) (r .next .at .0) ⌝ }
 {
     let e = from.past_token(s);
     let name = from.span_to(e);
@@ -26,7 +26,7 @@ pub fn read_param(edition: Edition, s: &[u8], from: Cursor) -> ParamRead
         let value = v.span;
         let next = v.next;
         return ParamRead {
-            record: ParamRecord {
+            parts: ParamParts {
                 name,
                 value,
                 form: v.form,
@@ -36,7 +36,7 @@ pub fn read_param(edition: Edition, s: &[u8], from: Cursor) -> ParamRead
     }
     let value = e.span_to(e);
     ParamRead {
-        record: ParamRecord {
+        parts: ParamParts {
             name,
             value,
             form: 0,

@@ -61,7 +61,7 @@ module _ (ed : Edition) where
   record Filled (h L P : List ℕ) (out : ReadOut) : Type 0 where
     links : List Link
     reading : Reading (further ed) h links
-    is : out ≡ filled L P links
+    is : out ≡ filled h L P links
 
   read-done : {h L P : List ℕ} {out : ReadOut} → ReadIn ed h L P out → out .number ≡ done → Filled h L P out
   read-done (too-long l) e = absurd (omega arith)
@@ -109,7 +109,7 @@ module _ (ed : Edition) where
     link-count : a .alone .out .links ≡ length K
     param-count : a .alone .out .params ≡ countParams K
     link-records : linkRecordsOf a ≡ linkRecords 0 K
-    param-records : paramRecordsOf a ≡ paramRecords K
+    param-records : paramRecordsOf a ≡ paramRecords (a .alone .pad .header) K
 
   agrees : (a : Accepted ed) → Agrees a (readable a .reading)
   unfolding readable
@@ -124,7 +124,8 @@ module _ (ed : Edition) where
             ∙ take-at (linkRecords 0 K) _ (linkWidth * length K) (link-records-length 0 K);
         param-records =
             ap (λ (o : ReadOut). take (paramWidth * o .params) (o .paramSlots)) (f .is)
-            ∙ take-at (paramRecords K) _ (paramWidth * countParams K) (param-records-length K);
+            ∙ take-at (paramRecords (a .alone .pad .header) K) _ (paramWidth * countParams K)
+            (param-records-length (a .alone .pad .header) K);
       }
 
   same-pads : (hs : List (Accepted ed))
@@ -179,7 +180,8 @@ module _ (ed : Edition) where
         n,
         m,
         sym (j .link-records ∙ same-links 0 0 hs),
-        sym (j .param-records ∙ same-params 0 hs),
+        sym
+            (ap (λ (ps : List Padded). paramRecords (join ps) (j .links)) (sym (same-pads hs)) ∙ j .param-records ∙ same-params 0 hs),
       )
       (one-answer (reads short reading (omega arith) (omega arith)) r a)
 
@@ -258,11 +260,13 @@ back-answers ed d t w L P links params r a =
     let b = read-back ed t (x .good) in
     let K = b .links in
     let f = writtenForm t in
-    let read : ReadIn d (octetsOf w) L P (filled L P K) =
-    subst (λ (s : List ℕ). ReadIn d s L P (filled L P K)) (sym (x .is))
+    let read : ReadIn d (octetsOf w) L P (filled (octetsOf w) L P K) =
+    subst (λ (s : List ℕ). ReadIn d s L P (filled s L P K)) (sym (x .is))
     (reads (x .short) (b .reads d) (omega (arith, b .link-count)) (omega (arith, b .param-count)))
     in
-    let e : r ≡ filled L P K = one-answer d read r (in-known refl a) in (
+    let e : r ≡ filled f L P K =
+    one-answer d read r (in-known refl a) ∙ ap (λ (s : List ℕ). filled s L P K) (x .is)
+    in (
       ap (λ (o : ReadOut). o .number) e,
       ap (λ (o : ReadOut). o .links) e ∙ b .link-count,
       ap (λ (o : ReadOut). o .params) e ∙ b .param-count,

@@ -45,7 +45,7 @@ read ed h = finish (run (further ed) (gap []) 0 h) (length h)
 abbrev recorded : List ℕ → List ℕ → List ℕ → Option (List Link) → Bool
 recorded h ls ps none = false
 recorded h ls ps (some R) =
-    same (linkRecords 0 (map (keptLink h) R)) ls && same (paramRecords (map (keptLink h) R)) ps
+    same (linkRecords 0 (map (keptLink h) R)) ls && same (paramRecords h (map (keptLink h) R)) ps
 
 abbrev isNone : {A : Type 0} → List A → Bool
 isNone [] = true
@@ -101,18 +101,18 @@ pub record KnownRow (ed : Edition) (h ls ps : List ℕ) : Type 0 where
   pub may-use : Usable ed (recordedTable h ls ps)
 
 known-row : (ed : Edition) (h : List ℕ) → length h ≤ limit → (K : List Link) → Reading (further ed) h K
-    → KnownRow ed h (linkRecords 0 K) (paramRecords K)
+    → KnownRow ed h (linkRecords 0 K) (paramRecords h K)
 known-row ed h short K r =
     let l = link-records-length 0 K in
-    let p = param-records-length K in
+    let p = param-records-length h K in
     let n : length K ≡ length (linkRecords 0 K) / linkWidth = omega arith in
-    let m : countParams K ≡ length (paramRecords K) / paramWidth = omega arith in
+    let m : countParams K ≡ length (paramRecords h K) / paramWidth = omega arith in
     record {
       fills = λ L P x y. rw (← n, ← m, l, p) (known {e = ed} refl (Read.reads short r (omega arith) (omega arith)));
       may-use =
           record {
             short = short;
-            good = regood (append-nil (linkRecords 0 K)) (append-nil (paramRecords K)) n m (read-good (further ed) h K [] [] r .good);
+            good = regood (append-nil (linkRecords 0 K)) (append-nil (paramRecords h K)) n m (read-good (further ed) h K [] [] r .good);
           };
     }
 
@@ -123,8 +123,8 @@ recorded-known ed h ls ps short e = go (read ed h) refl e
     go none q e = absurd (false≢true e)
     go (some R) q e =
         let K = map (keptLink h) R in
-        let (l, p) = both (same (linkRecords 0 K) ls) (same (paramRecords K) ps) e in
-        subst₂ (λ (x y : List ℕ). KnownRow ed h x y) (same-sound (linkRecords 0 K) ls l) (same-sound (paramRecords K) ps p)
+        let (l, p) = both (same (linkRecords 0 K) ls) (same (paramRecords h K) ps) e in
+        subst₂ (λ (x y : List ℕ). KnownRow ed h x y) (same-sound (linkRecords 0 K) ls l) (same-sound (paramRecords h K) ps p)
         (known-row ed h short K (read-reading (further ed) (apart ed) h R q))
 
 is-none : {A : Type 0} (xs : List A) → isNone xs ≡ true → xs ≡ []

@@ -25,12 +25,12 @@ same-slots rs slots n e h = omega (arith, length-append rs (drop n slots), lengt
 same-behind : (rs slots : List ℕ) (n : ℕ) → length rs ≡ n → rs ++ drop n (rs ++ drop n slots) ≡ rs ++ drop n slots
 same-behind rs slots n e = ap (λ (u : List ℕ). rs ++ u) (drop-at rs (drop n slots) n e)
 
-module _ (L P : List ℕ) (K : List Link) (f : length K ≤ linkRoom L) (g : countParams K ≤ paramRoom P) where
+module _ (h L P : List ℕ) (K : List Link) (f : length K ≤ linkRoom L) (g : countParams K ≤ paramRoom P) where
   abbrev links-then : List ℕ
   links-then = linkRecords 0 K ++ drop (linkWidth * length K) L
 
   abbrev params-then : List ℕ
-  params-then = paramRecords K ++ drop (paramWidth * countParams K) P
+  params-then = paramRecords h K ++ drop (paramWidth * countParams K) P
 
   same-link-room : linkRoom links-then ≡ linkRoom L
   same-link-room =
@@ -40,13 +40,13 @@ module _ (L P : List ℕ) (K : List Link) (f : length K ≤ linkRoom L) (g : cou
   same-param-room : paramRoom params-then ≡ paramRoom P
   same-param-room =
       ap (λ (n : ℕ). n / paramWidth)
-      (same-slots (paramRecords K) P (paramWidth * countParams K) (param-records-length K) (omega arith))
+      (same-slots (paramRecords h K) P (paramWidth * countParams K) (param-records-length h K) (omega arith))
 
-  filled-again : filled links-then params-then K ≡ filled L P K
+  filled-again : filled h links-then params-then K ≡ filled h L P K
   filled-again =
       rw (
         same-behind (linkRecords 0 K) L (linkWidth * length K) (link-records-length 0 K),
-        same-behind (paramRecords K) P (paramWidth * countParams K) (param-records-length K),
+        same-behind (paramRecords h K) P (paramWidth * countParams K) (param-records-length h K),
       ) refl
 
 read-again : (e : Edition) {h L P : List ℕ} {o q : ReadOut} → ReadIn e h L P o → ReadIn e h (o .linkSlots) (o .paramSlots) q → q ≡ o
@@ -58,11 +58,11 @@ read-again e {h} {L} {P} {q = q} (no-link-room s k l) r =
 read-again e {h} {L} {P} {q = q} (no-param-room s k l m) r =
     read-in e h L P .2 q r ∙ sym (read-in e h L P .2 _ (no-param-room s k l m))
 read-again e {h} {L} {P} {q = q} (reads {K = K} s k f g) r =
-    let one = read-in e h (links-then L P K f g) (params-then L P K f g) .2 in
-    let again : ReadIn e h (links-then L P K f g) (params-then L P K f g) (filled (links-then L P K f g) (params-then L P K f g) K) =
-    reads s k (rw (same-link-room L P K f g) f) (rw (same-param-room L P K f g) g)
+    let one = read-in e h (links-then h L P K f g) (params-then h L P K f g) .2 in
+    let again : ReadIn e h (links-then h L P K f g) (params-then h L P K f g) (filled h (links-then h L P K f g) (params-then h L P K f g) K) =
+    reads s k (rw (same-link-room h L P K f g) f) (rw (same-param-room h L P K f g) g)
     in
-    one q r ∙ sym (one _ again) ∙ filled-again L P K f g
+    one q r ∙ sym (one _ again) ∙ filled-again h L P K f g
 
 -- with a buffer that is large enough the finish reads
 has-read : {e : Edition} {octets buffer L P : List ℕ} {q : ReadOut} → limit ≤ length buffer → FinishIn e octets buffer L P q

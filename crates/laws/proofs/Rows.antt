@@ -1,10 +1,12 @@
 -- The rows hold: each test is computed.
 use native.Mathlib.Omega.{arith}
-use Prim.Native.Nat.{_≤_}
-use mathlib.Core.Path.{refl}
-use mathlib.Core.Bool.{false≢true}
+use Prim.Native.Nat.{ℕ, _≤_, _<_}
+use mathlib.Core.Path.{_≡_, refl}
+use mathlib.Core.Bool.{Bool, true, _&&_, not, false≢true}
+use mathlib.Core.List.{List, [], _∷_}
+use lib.Dec.{leb, ltb, eqb}
 use lib.ListN.{length}
-use borrow.Author.Tests.{leb-true}
+use borrow.Author.Tests.{leb-true, ltb-true, eqb-false, not-true}
 use Rattle.outcomes.specs.Number.{limit}
 use Rattle.outcomes.specs.InEdition.{known}
 use Rattle.outcomes.specs.Usable.{Usable, usable, refused, not-good}
@@ -13,6 +15,7 @@ use Rattle.outcomes.specs.Copy.{no-such-param, copied}
 use Rattle.octets.specs.Sets.{isBlank, isDigit, isLetter, isToken, isPlain, isEscapable, isTarget, isHex, isOlder}
 use Rattle.octets.specs.Fold.{fold, sameFolded}
 use Rattle.octets.specs.Text.{octets}
+use Rattle.octets.proofs.Octets.{both}
 use Rattle.octets.specs.Editions.{further}
 use Rattle.octets.specs.declared.editions.Edition.{Edition}
 use Rattle.octets.specs.declared.editions.Edition.the-variants.{Rfc8288, Rfc5988}
@@ -20,8 +23,8 @@ use Rattle.grammar.proofs.Editions.{apart}
 use Rattle.grammar.proofs.Readings.{read-reading, unread-malformed}
 use Rattle.grammar.specs.Kept.{nameOf, codeOf, isOnce}
 use Rattle.grammar.specs.Grammar.{from-token}
-use Rattle.tables.specs.Table.{paramAt}
-use Rattle.tables.specs.Good.{Good, GoodValue, no-value, token-value, quoted-value, wider-value}
+use Rattle.tables.specs.Table.{Table, paramAt, codeAt}
+use Rattle.tables.specs.Good.{Each, each-none, each-more, Agrees, Good, GoodValue, no-value, token-value, quoted-value, wider-value}
 use Rattle.tables.proofs.InGood.{head-of}
 use Rattle.tables.specs.Meaning.{unescape, valueOf}
 use Rattle.tables.specs.Relation.{runs, relations, hasRelation}
@@ -29,7 +32,7 @@ use Rattle.tables.specs.Written.{writtenValue}
 use Rattle.laws.specs.Marked.{marked}
 use Rattle.laws.specs.Slips.{slips}
 use Rattle.laws.specs.Older.{older, olderRefused}
-use Rattle.laws.specs.Laws.{MarkedHold, SlipsHold, OlderHold, third, fifth, mirror, LookupsHold, MirrorHolds, PremiseNeeded}
+use Rattle.laws.specs.Laws.{MarkedHold, SlipsHold, OlderHold, third, fifth, mirror, LookupsHold, MirrorHolds, IsBad, miscoded, CodesAsked, PremiseNeeded}
 use Rattle.laws.proofs.Checked.{recorded-known, rows-hold}
 
 pub marked-hold : MarkedHold
@@ -87,18 +90,52 @@ mirror-bad g = go (head-of (head-of (g .links) .params) .value)
     go (quoted-value f t) = omega (arith, f)
     go (wider-value f (from-token t x r)) = false≢true (x .is)
 
+-- a table that isn't good is bad, whatever is asked of it
+is-bad : (e : Edition) (t : Table) → length (t .text) ≤ limit → (Good (further e) t → ⊥) → IsBad e t
+is-bad e t short bad =
+    record {
+      search = λ q. known {e = e} refl (refused (not-good short bad));
+      context = λ base i. known {e = e} refl (refused (not-good short bad));
+      copy = λ i j out. known {e = e} refl (refused (not-good short bad));
+      write = λ out. known {e = e} refl (refused (not-good short bad));
+    }
+
 pub mirror-holds : MirrorHolds
 unfolding fold nameOf unescape valueOf
 mirror-holds =
-    let short : length (mirror .text) ≤ limit = leb-true (length (mirror .text)) limit refl in
     record {
       anchored = λ base. known {e = Rfc5988} refl (usable mirror-usable (anchored (omega arith) refl));
       copied = λ out h. known {e = Rfc5988} refl (usable mirror-usable (copied (omega arith) (omega arith) h));
-      no-context = λ base. known {e = Rfc8288} refl (refused (not-good short mirror-bad));
-      no-copy = λ out. known {e = Rfc8288} refl (refused (not-good short mirror-bad));
-      no-search = λ q. known {e = Rfc8288} refl (refused (not-good short mirror-bad));
-      no-write = λ out. known {e = Rfc8288} refl (refused (not-good short mirror-bad));
+      bad = is-bad Rfc8288 mirror (leb-true (length (mirror .text)) limit refl) mirror-bad;
     }
+
+-- the test of a row: a short text, and a first parameter with another code
+abbrev isMiscoded : Table → Bool
+isMiscoded t =
+    leb (length (t .text)) limit && ltb 0 (t .paramCount)
+    && not (eqb (codeAt (t .paramSlots) 0) (codeOf (nameOf (t .text) (paramAt (t .paramSlots) 0))))
+
+abbrev allMiscoded : List Table → Bool
+allMiscoded [] = true
+allMiscoded (t ∷ ts) = isMiscoded t && allMiscoded ts
+
+module _ (e : Edition) where
+  miscoded-bad : (t : Table) (j : ℕ) → length (t .text) ≤ limit → j < t .paramCount → (Agrees (t .text) (t .paramSlots) j → ⊥) → IsBad e t
+  miscoded-bad t j short l n = is-bad e t short (λ g. n (g .codes j l))
+
+  rows-bad : (ts : List Table) → allMiscoded ts ≡ true → Each (IsBad e) ts
+  rows-bad [] h = each-none
+  rows-bad (t ∷ ts) h =
+      let (x, rest) = both (isMiscoded t) (allMiscoded ts) h in
+      let (sl, other) = both (leb (length (t .text)) limit && ltb 0 (t .paramCount)) _ x in
+      let (short, some) = both (leb (length (t .text)) limit) (ltb 0 (t .paramCount)) sl in
+      each-more
+      (miscoded-bad t 0 (leb-true (length (t .text)) limit short) (ltb-true 0 (t .paramCount) some) (eqb-false _ _ (not-true _ other)))
+      (rows-bad ts rest)
+
+pub codes-asked : (e : Edition) → CodesAsked e
+unfolding fold nameOf codeOf
+codes-asked e = record { any = miscoded-bad e; rows = rows-bad e miscoded refl }
 
 pub premise-needed : (e : Edition) → PremiseNeeded e
 unfolding isBlank isDigit isLetter isToken isPlain isEscapable isTarget isHex isOlder

@@ -1,5 +1,5 @@
 -- What is proved over all the definitions.
-use Prim.Native.Nat.{ℕ, _≤_}
+use Prim.Native.Nat.{ℕ, _≤_, _<_}
 use mathlib.Core.Path.{refl}
 use mathlib.Core.List.{List, [], _∷_}
 use lib.ListN.{length}
@@ -11,9 +11,9 @@ use Rattle.grammar.specs.Link.{Link}
 use Rattle.grammar.specs.Kept.{Reading}
 use Rattle.grammar.specs.Place.{Malformed}
 use Rattle.grammar.specs.Join.{Padded, join}
-use Rattle.tables.specs.Good.{Each}
+use Rattle.tables.specs.Good.{Each, Agrees}
 use Rattle.tables.specs.Table.{Table}
-use Rattle.outcomes.specs.Number.{done, badTable, noSuchLink, notFound}
+use Rattle.outcomes.specs.Number.{limit, done, badTable, noSuchLink, notFound}
 use Rattle.outcomes.specs.Context.{of-text, of-base, nothing, Context}
 use Rattle.outcomes.specs.Search.{Search}
 use Rattle.outcomes.specs.Copy.{untouched, holding, Copy}
@@ -26,16 +26,16 @@ use Rattle.laws.specs.Older.{older, olderRefused}
 abbrev pub third : Table
 third =
     recordedTable (octets "</terms>; rel=\"copyright\"; anchor=\"#foo\"") (1 ∷ 7 ∷ 0 ∷ 2 ∷ [])
-    (10 ∷ 13 ∷ 15 ∷ 24 ∷ 2 ∷ 27 ∷ 33 ∷ 35 ∷ 39 ∷ 2 ∷ [])
+    (10 ∷ 13 ∷ 15 ∷ 24 ∷ 2 ∷ 1 ∷ 27 ∷ 33 ∷ 35 ∷ 39 ∷ 2 ∷ 2 ∷ [])
 
 abbrev pub fifth : Table
-fifth = recordedTable (octets "<a>;REL=Next;rel=prev") (1 ∷ 2 ∷ 0 ∷ 1 ∷ []) (4 ∷ 7 ∷ 8 ∷ 12 ∷ 1 ∷ [])
+fifth = recordedTable (octets "<a>;REL=Next;rel=prev") (1 ∷ 2 ∷ 0 ∷ 1 ∷ []) (4 ∷ 7 ∷ 8 ∷ 12 ∷ 1 ∷ 1 ∷ [])
 
 -- a table of the older edition
 abbrev pub mirror : Table
 mirror =
     recordedTable (octets "<a>;anchor=/b;rel=http://c/d") (1 ∷ 2 ∷ 0 ∷ 2 ∷ [])
-    (4 ∷ 10 ∷ 11 ∷ 13 ∷ 3 ∷ 14 ∷ 17 ∷ 18 ∷ 28 ∷ 3 ∷ [])
+    (4 ∷ 10 ∷ 11 ∷ 13 ∷ 3 ∷ 2 ∷ 14 ∷ 17 ∷ 18 ∷ 28 ∷ 3 ∷ 1 ∷ [])
 
 -- every marked header is as it was read by hand, in RFC 8288's edition
 abbrev pub MarkedHold : Type 0
@@ -62,15 +62,34 @@ pub record LookupsHold (e : Edition) : Type 0 where
   pub unanchored : (base : List ℕ)
       → Context (numberOf e) fifth base 0 (record { number = done; source = of-base; start = 0; end = length base })
 
+-- whatever is asked of the table, the edition answers 5
+pub record IsBad (e : Edition) (t : Table) : Type 0 where
+  pub search : (q : List ℕ) → Search (numberOf e) t q (record { number = badTable; link = 0 })
+  pub context : (base : List ℕ) (i : ℕ) → Context (numberOf e) t base i (nothing badTable)
+  pub copy : (i j : ℕ) (out : List ℕ) → Copy (numberOf e) t i j out (untouched out badTable)
+  pub write : (out : List ℕ) → Write (numberOf e) t out (untouched out badTable)
+
 -- Of a table with values of form 3: the older edition hands out their octets as they stand, and in RFC 8288's the table is not good.
 pub record MirrorHolds : Type 0 where
   pub anchored : (base : List ℕ)
       → Context (numberOf Rfc5988) mirror base 0 (record { number = done; source = of-text; start = 11; end = 13 })
   pub copied : (out : List ℕ) → 10 ≤ length out → Copy (numberOf Rfc5988) mirror 0 1 out (holding out (octets "http://c/d"))
-  pub no-context : (base : List ℕ) → Context (numberOf Rfc8288) mirror base 0 (nothing badTable)
-  pub no-copy : (out : List ℕ) → Copy (numberOf Rfc8288) mirror 0 1 out (untouched out badTable)
-  pub no-search : (q : List ℕ) → Search (numberOf Rfc8288) mirror q (record { number = badTable; link = 0 })
-  pub no-write : (out : List ℕ) → Write (numberOf Rfc8288) mirror out (untouched out badTable)
+  pub bad : IsBad Rfc8288 mirror
+
+-- `<a>;rel=b` with other codes than that of `rel`: one that no name has, the largest number, that of `anchor`, and none; and
+-- `<a>;relx=b` with the code of `rel`
+abbrev pub miscoded : List Table
+miscoded =
+    recordedTable (octets "<a>;rel=b") (1 ∷ 2 ∷ 0 ∷ 1 ∷ []) (4 ∷ 7 ∷ 8 ∷ 9 ∷ 1 ∷ 9 ∷ [])
+    ∷ recordedTable (octets "<a>;rel=b") (1 ∷ 2 ∷ 0 ∷ 1 ∷ []) (4 ∷ 7 ∷ 8 ∷ 9 ∷ 1 ∷ 18446744073709551615 ∷ [])
+    ∷ recordedTable (octets "<a>;rel=b") (1 ∷ 2 ∷ 0 ∷ 1 ∷ []) (4 ∷ 7 ∷ 8 ∷ 9 ∷ 1 ∷ 2 ∷ [])
+    ∷ recordedTable (octets "<a>;rel=b") (1 ∷ 2 ∷ 0 ∷ 1 ∷ []) (4 ∷ 7 ∷ 8 ∷ 9 ∷ 1 ∷ 0 ∷ [])
+    ∷ recordedTable (octets "<a>;relx=b") (1 ∷ 2 ∷ 0 ∷ 1 ∷ []) (4 ∷ 8 ∷ 9 ∷ 10 ∷ 1 ∷ 1 ∷ []) ∷ []
+
+-- A table is bad if some parameter's code isn't that of its name, whatever the rest of it is: so are these.
+pub record CodesAsked (e : Edition) : Type 0 where
+  pub any : (t : Table) (j : ℕ) → length (t .text) ≤ limit → j < t .paramCount → (Agrees (t .text) (t .paramSlots) j → ⊥) → IsBad e t
+  pub rows : Each (IsBad e) miscoded
 
 -- a header with nothing before and after it
 abbrev pub bare : List ℕ → Padded

@@ -12,33 +12,33 @@ older =
     record {
       header = octets "<a>;rel=http://example.net/foo";
       judgement =
-          reads (1 ∷ 2 ∷ 0 ∷ 1 ∷ []) (4 ∷ 7 ∷ 8 ∷ 30 ∷ 3 ∷ [])
+          reads (1 ∷ 2 ∷ 0 ∷ 1 ∷ []) (4 ∷ 7 ∷ 8 ∷ 30 ∷ 3 ∷ 1 ∷ [])
           (octets "http://example.net/foo" ∷ octets "HTTP://EXAMPLE.NET/FOO" ∷ [])
           (writes (octets "<a>; rel=\"http://example.net/foo\""));
     }
     ∷ record {
       header = octets "<a>;rel=a/b";
       judgement =
-          reads (1 ∷ 2 ∷ 0 ∷ 1 ∷ []) (4 ∷ 7 ∷ 8 ∷ 11 ∷ 3 ∷ []) (octets "a/b" ∷ []) (writes (octets "<a>; rel=\"a/b\""));
+          reads (1 ∷ 2 ∷ 0 ∷ 1 ∷ []) (4 ∷ 7 ∷ 8 ∷ 11 ∷ 3 ∷ 1 ∷ []) (octets "a/b" ∷ []) (writes (octets "<a>; rel=\"a/b\""));
     }
     -- a value of token octets alone is a token in every edition
     ∷ record {
       header = octets "<a>;rel=next";
       judgement =
-          reads (1 ∷ 2 ∷ 0 ∷ 1 ∷ []) (4 ∷ 7 ∷ 8 ∷ 12 ∷ 1 ∷ []) (octets "next" ∷ []) (writes (octets "<a>; rel=next"));
+          reads (1 ∷ 2 ∷ 0 ∷ 1 ∷ []) (4 ∷ 7 ∷ 8 ∷ 12 ∷ 1 ∷ 1 ∷ []) (octets "next" ∷ []) (writes (octets "<a>; rel=next"));
     }
     -- `=` and `<` may begin a value, and then `<` opens no target
-    ∷ record { header = octets "<a>;x=="; judgement = reads (1 ∷ 2 ∷ 0 ∷ 1 ∷ []) (4 ∷ 5 ∷ 6 ∷ 7 ∷ 3 ∷ []) [] (answers noRelation) }
+    ∷ record { header = octets "<a>;x=="; judgement = reads (1 ∷ 2 ∷ 0 ∷ 1 ∷ []) (4 ∷ 5 ∷ 6 ∷ 7 ∷ 3 ∷ 0 ∷ []) [] (answers noRelation) }
     ∷ record {
       header = octets "<a>;x=<b>";
-      judgement = reads (1 ∷ 2 ∷ 0 ∷ 1 ∷ []) (4 ∷ 5 ∷ 6 ∷ 9 ∷ 3 ∷ []) [] (answers noRelation);
+      judgement = reads (1 ∷ 2 ∷ 0 ∷ 1 ∷ []) (4 ∷ 5 ∷ 6 ∷ 9 ∷ 3 ∷ 0 ∷ []) [] (answers noRelation);
     }
     -- each of the further octets, and all that ends such a value: a blank, a semicolon, a comma
     ∷ record {
       header = octets "<a>;x=()/:<=>?@[]{} ;y=a(;rel=b:c,<d>;rel=e";
       judgement =
           reads (1 ∷ 2 ∷ 0 ∷ 3 ∷ 35 ∷ 36 ∷ 3 ∷ 1 ∷ [])
-          (4 ∷ 5 ∷ 6 ∷ 19 ∷ 3 ∷ 21 ∷ 22 ∷ 23 ∷ 25 ∷ 3 ∷ 26 ∷ 29 ∷ 30 ∷ 33 ∷ 3 ∷ 38 ∷ 41 ∷ 42 ∷ 43 ∷ 1 ∷ []) (octets "b:c" ∷ [])
+          (4 ∷ 5 ∷ 6 ∷ 19 ∷ 3 ∷ 0 ∷ 21 ∷ 22 ∷ 23 ∷ 25 ∷ 3 ∷ 0 ∷ 26 ∷ 29 ∷ 30 ∷ 33 ∷ 3 ∷ 1 ∷ 38 ∷ 41 ∷ 42 ∷ 43 ∷ 1 ∷ 1 ∷ []) (octets "b:c" ∷ [])
           (writes (octets "<a>; x=\"()/:<=>?@[]{}\"; y=\"a(\"; rel=\"b:c\", <d>; rel=e"));
     }
     -- names stay tokens, and no value is empty, begins with a comma, or holds a quote or a backslash

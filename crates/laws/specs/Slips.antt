@@ -17,14 +17,14 @@ slips =
     ∷ record {
       header = octets "<a>;t=\";,\";rel=b";
       judgement =
-          reads (1 ∷ 2 ∷ 0 ∷ 2 ∷ []) (4 ∷ 5 ∷ 7 ∷ 9 ∷ 2 ∷ 11 ∷ 14 ∷ 15 ∷ 16 ∷ 1 ∷ []) (octets "B" ∷ [])
+          reads (1 ∷ 2 ∷ 0 ∷ 2 ∷ []) (4 ∷ 5 ∷ 7 ∷ 9 ∷ 2 ∷ 0 ∷ 11 ∷ 14 ∷ 15 ∷ 16 ∷ 1 ∷ 1 ∷ []) (octets "B" ∷ [])
           (writes (octets "<a>; t=\";,\"; rel=b"));
     }
     -- of two titles the first is kept
     ∷ record {
       header = octets "<a>;rel=b;title=c;TITLE=d";
       judgement =
-          reads (1 ∷ 2 ∷ 0 ∷ 2 ∷ []) (4 ∷ 7 ∷ 8 ∷ 9 ∷ 1 ∷ 10 ∷ 15 ∷ 16 ∷ 17 ∷ 1 ∷ []) (octets "b" ∷ [])
+          reads (1 ∷ 2 ∷ 0 ∷ 2 ∷ []) (4 ∷ 7 ∷ 8 ∷ 9 ∷ 1 ∷ 1 ∷ 10 ∷ 15 ∷ 16 ∷ 17 ∷ 1 ∷ 4 ∷ []) (octets "b" ∷ [])
           (writes (octets "<a>; rel=b; title=c"));
     }
     -- of two hreflangs both are kept
@@ -32,14 +32,14 @@ slips =
       header = octets "<a>;hreflang=b;hreflang=c;rel=d";
       judgement =
           reads (1 ∷ 2 ∷ 0 ∷ 3 ∷ [])
-          (4 ∷ 12 ∷ 13 ∷ 14 ∷ 1 ∷ 15 ∷ 23 ∷ 24 ∷ 25 ∷ 1 ∷ 26 ∷ 29 ∷ 30 ∷ 31 ∷ 1 ∷ []) (octets "d" ∷ [])
+          (4 ∷ 12 ∷ 13 ∷ 14 ∷ 1 ∷ 7 ∷ 15 ∷ 23 ∷ 24 ∷ 25 ∷ 1 ∷ 7 ∷ 26 ∷ 29 ∷ 30 ∷ 31 ∷ 1 ∷ 1 ∷ []) (octets "d" ∷ [])
           (writes (octets "<a>; hreflang=b; hreflang=c; rel=d"));
     }
     -- a relation is compared folded, and with backslashes out; SP parts relations, HTAB doesn't
     ∷ record {
       header = octets "<a>;rel=\" N\\Ext b\tc \"";
       judgement =
-          reads (1 ∷ 2 ∷ 0 ∷ 1 ∷ []) (4 ∷ 7 ∷ 9 ∷ 20 ∷ 2 ∷ []) (octets "next" ∷ octets "B\tC" ∷ [])
+          reads (1 ∷ 2 ∷ 0 ∷ 1 ∷ []) (4 ∷ 7 ∷ 9 ∷ 20 ∷ 2 ∷ 1 ∷ []) (octets "next" ∷ octets "B\tC" ∷ [])
           (writes (octets "<a>; rel=\" NExt b\tc \""));
     }
     -- links are written behind one another, and a parameter without `=` gets an empty value
@@ -47,19 +47,19 @@ slips =
       header = octets "<a>;rel=b;c , ,<d>;rel=e";
       judgement =
           reads (1 ∷ 2 ∷ 0 ∷ 2 ∷ 16 ∷ 17 ∷ 2 ∷ 1 ∷ [])
-          (4 ∷ 7 ∷ 8 ∷ 9 ∷ 1 ∷ 10 ∷ 11 ∷ 11 ∷ 11 ∷ 0 ∷ 19 ∷ 22 ∷ 23 ∷ 24 ∷ 1 ∷ []) (octets "b" ∷ [])
+          (4 ∷ 7 ∷ 8 ∷ 9 ∷ 1 ∷ 1 ∷ 10 ∷ 11 ∷ 11 ∷ 11 ∷ 0 ∷ 0 ∷ 19 ∷ 22 ∷ 23 ∷ 24 ∷ 1 ∷ 1 ∷ []) (octets "b" ∷ [])
           (writes (octets "<a>; rel=b; c=\"\", <d>; rel=e"));
     }
     -- a `rel` without a value, with an empty one, or with spaces alone, also escaped ones, holds no relation
-    ∷ record { header = octets "<a>;rel"; judgement = reads (1 ∷ 2 ∷ 0 ∷ 1 ∷ []) (4 ∷ 7 ∷ 7 ∷ 7 ∷ 0 ∷ []) [] (answers noRelation) }
-    ∷ record { header = octets "<a>;rel=\"\""; judgement = reads (1 ∷ 2 ∷ 0 ∷ 1 ∷ []) (4 ∷ 7 ∷ 9 ∷ 9 ∷ 2 ∷ []) [] (answers noRelation) }
+    ∷ record { header = octets "<a>;rel"; judgement = reads (1 ∷ 2 ∷ 0 ∷ 1 ∷ []) (4 ∷ 7 ∷ 7 ∷ 7 ∷ 0 ∷ 1 ∷ []) [] (answers noRelation) }
+    ∷ record { header = octets "<a>;rel=\"\""; judgement = reads (1 ∷ 2 ∷ 0 ∷ 1 ∷ []) (4 ∷ 7 ∷ 9 ∷ 9 ∷ 2 ∷ 1 ∷ []) [] (answers noRelation) }
     ∷ record {
       header = octets "<a>;rel=\"  \"";
-      judgement = reads (1 ∷ 2 ∷ 0 ∷ 1 ∷ []) (4 ∷ 7 ∷ 9 ∷ 11 ∷ 2 ∷ []) [] (answers noRelation);
+      judgement = reads (1 ∷ 2 ∷ 0 ∷ 1 ∷ []) (4 ∷ 7 ∷ 9 ∷ 11 ∷ 2 ∷ 1 ∷ []) [] (answers noRelation);
     }
     ∷ record {
       header = octets "<a>;rel=\"\\ \\ \"";
-      judgement = reads (1 ∷ 2 ∷ 0 ∷ 1 ∷ []) (4 ∷ 7 ∷ 9 ∷ 13 ∷ 2 ∷ []) [] (answers noRelation);
+      judgement = reads (1 ∷ 2 ∷ 0 ∷ 1 ∷ []) (4 ∷ 7 ∷ 9 ∷ 13 ∷ 2 ∷ 1 ∷ []) [] (answers noRelation);
     }
     -- a later one of a kept name must still be well formed
     ∷ record { header = octets "<a>;rel=b;rel=;"; judgement = malformed 14 }

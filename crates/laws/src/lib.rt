@@ -1,6 +1,6 @@
 // Laws over all the definitions, held by the gate: each function promises one statement of specs/ and does nothing.
 ghost use Rattle.octets.specs.declared.editions.Edition.{Edition};
-ghost use Rattle.laws.specs.Laws.{MarkedHold, SlipsHold, OlderHold, LookupsHold, MirrorHolds, PremiseNeeded};
+ghost use Rattle.laws.specs.Laws.{MarkedHold, SlipsHold, OlderHold, LookupsHold, MirrorHolds, CodesAsked, PremiseNeeded};
 ghost use Rattle.laws.specs.Answers.{JoinAnswers, JoinRefuses, BackAnswers, WrittenApart, ReadsAlike, TablesAlike};
 ghost use Rattle.laws.specs.Feedings.{FinishReads, CutsDontMatter, FinishAgain, CutShortFinishes, FeedAnswers, FeedTells};
 ghost use Rattle.laws.specs.Feedings.{PlaceStays, TooLongForGood, OneAnswer, UnknownForGood};
@@ -28,6 +28,11 @@ pub fn lookups_hold()
 // A context and a copied value of the older edition, which RFC 8288's refuses.
 pub fn mirror_holds()
     ensures { λ _. ⌜ MirrorHolds ⌝ }
+{}
+
+// A table with a code that isn't its name's is bad, to every entry.
+pub fn codes_asked()
+    ensures { λ _. ⌜ ((e : Edition) → CodesAsked e) ⌝ }
 {}
 
 // Two malformed headers may join to one that is not.

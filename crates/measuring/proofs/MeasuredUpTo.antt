@@ -11,7 +11,7 @@ use Rattle.octets.specs.Editions.{further}
 use Rattle.octets.specs.declared.editions.Edition.the-variants.{Rfc5988}
 use Rattle.records.specs.Slots.{IsLink, toLink, toParam}
 use Rattle.records.specs.declared.LinkRecord.{LinkRecord}
-use Rattle.records.specs.declared.ParamRecord.{ParamRecord}
+use Rattle.records.specs.declared.ParamParts.{ParamParts}
 use Rattle.outcomes.specs.Number.{limit}
 use Rattle.outcomes.specs.Usable.{Usable}
 use Rattle.outcomes.specs.Write.{writtenForm}
@@ -41,7 +41,7 @@ module _ {s P : List ℕ} {total end n p : ℕ} (w : ParamsMeasured s P total en
   over-limit l = record { exact = λ h. absurd (omega arith); over = λ h. omega (arith, w .whole) }
 
   -- the parameter at p, and how many octets its name and its value take
-  module _ (l : p < end) {r : ParamRecord} (is : toParam r ≡ paramAt P p) where
+  module _ (l : p < end) {r : ParamParts} (is : toParam r ≡ paramAt P p) where
     pub good-here : GoodParam (further Rfc5988) s (toParam r)
     good-here = rw is (w .run .good p (omega arith) l)
 

@@ -32,7 +32,7 @@ fn params_len(
     let mut n = before;
     let mut p = first;
     while p.0 < end.0 && n <= LIMIT {
-        let param = records::param_at(params, p);
+        let param = records::parts_at(params, p);
         n += param.name.len() + value_len(text, param) + 3;
         p = p.next();
     }

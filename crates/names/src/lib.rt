@@ -11,9 +11,9 @@ use kinds::Place;
 use kinds::Span;
 
 // The codes of the names that are asked for: `rel` and `anchor`.
-pub const REL: u8 = 1;
+pub const REL: usize = 1;
 
-pub const ANCHOR: u8 = 2;
+pub const ANCHOR: usize = 2;
 
 // The bits of the codes of names kept once, 1 to 6.
 const ONCE: u32 = 126;
@@ -31,14 +31,14 @@ impl Seen {
     }
 
     // Whether the name of this code is kept once and has been seen.
-    pub fn has(self, code: u8) -> bool
+    pub fn has(self, code: usize) -> bool
         ensures { λ r. ⌜ r ≡ hasCode self code ⌝ }
     {
         (self.marks >> (code % 32)) % 2 == 1
     }
 
     // What has been seen behind one more name, of this code.
-    pub fn with(self, code: u8) -> Seen
+    pub fn with(self, code: usize) -> Seen
         ensures { λ r. ⌜ r ≡ withCode self code ⌝ }
     {
         Seen {
@@ -48,7 +48,7 @@ impl Seen {
 }
 
 // The code k if n is the name m, and else 0.
-fn only(n: &[u8], m: &[u8], k: u8) -> u8
+fn only(n: &[u8], m: &[u8], k: usize) -> usize
     ensures { λ r. ⌜ r ≡ cond (sameFolded (now (n .entry)) (now (m .entry))) k 0 ⌝ }
 {
     if compare(n, m).same { k } else { 0 }
@@ -56,7 +56,7 @@ fn only(n: &[u8], m: &[u8], k: u8) -> u8
 
 // The code of the name n, written in any case, or 0 if it is not known. Its length and one of its first octets leave one known name at
 // most, and no other is compared.
-fn known(n: &[u8]) -> u8
+fn known(n: &[u8]) -> usize
     ensures { λ r. ⌜ r ≡ codeOf (folded (now (n .entry))) ⌝ }
 {
     match n.len() {
@@ -82,7 +82,7 @@ fn known(n: &[u8]) -> u8
 }
 
 // The code of the name that stands there.
-pub fn code(s: &[u8], name: Span) -> u8
+pub fn code(s: &[u8], name: Span) -> usize
     requires { ⌜ InText (now s) (name .from .0) (name .to .0) ⌝ }
     ensures { λ r. ⌜ r ≡ codeOf (folded (slice (name .from .0) (name .to .0) (now (s .entry)))) ⌝ }
 {
@@ -92,7 +92,7 @@ pub fn code(s: &[u8], name: Span) -> u8
 }
 
 // The code of a name by itself: the span of all of it is asked, so that one compiled function serves all callers.
-pub fn code_of(n: &[u8]) -> u8
+pub fn code_of(n: &[u8]) -> usize
     ensures { λ r. ⌜ r ≡ codeOf (folded (now (n .entry))) ⌝ }
 {
     code(

@@ -27,7 +27,7 @@ module _ (e : Edition) (h L P : List ℕ) where
   abbrev Fits : List Link → ReadOut → Type 0
   Fits K =
       Order (length K) (linkRoom L)
-      (Order (countParams K) (paramRoom P) (λ q. q ≡ filled L P K) (λ q. q ≡ refused L P noParamRoom 0))
+      (Order (countParams K) (paramRoom P) (λ q. q ≡ filled h L P K) (λ q. q ≡ refused L P noParamRoom 0))
       (λ q. q ≡ refused L P noLinkRoom 0)
 
   abbrev Cases : ReadOut → Type 0

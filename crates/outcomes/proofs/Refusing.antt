@@ -46,7 +46,7 @@ read-in e h L P _ (Reading.reads {K = K} s r l m) =
       refused = λ n. absurd (n refl);
       place = λ _. refl;
       behind-links = λ _. drop-at (linkRecords 0 K) (drop (linkWidth * length K) L) (linkWidth * length K) (link-records-length 0 K);
-      behind-params = λ _. drop-at (paramRecords K) (drop (paramWidth * countParams K) P) (paramWidth * countParams K) (param-records-length K);
+      behind-params = λ _. drop-at (paramRecords h K) (drop (paramWidth * countParams K) P) (paramWidth * countParams K) (param-records-length h K);
     }
 
 unknown : (L P : List ℕ) → ReadKeeps L P (Reading.refused L P 10 0)

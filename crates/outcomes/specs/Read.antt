@@ -24,16 +24,16 @@ pub record ReadOut : Type 0 where
 abbrev pub refused : List ℕ → List ℕ → ℕ → ℕ → ReadOut
 refused L P n k = record { number = n; place = k; links = 0; params = 0; linkSlots = L; paramSlots = P }
 
--- they hold the records of the links K, and behind them what the slots held
-abbrev pub filled : List ℕ → List ℕ → List Link → ReadOut
-filled L P K =
+-- they hold the records of the links K of the header h, and behind them what the slots held
+abbrev pub filled : List ℕ → List ℕ → List ℕ → List Link → ReadOut
+filled h L P K =
     record {
       number = done;
       place = 0;
       links = length K;
       params = countParams K;
       linkSlots = linkRecords 0 K ++ drop (linkWidth * length K) L;
-      paramSlots = paramRecords K ++ drop (paramWidth * countParams K) P;
+      paramSlots = paramRecords h K ++ drop (paramWidth * countParams K) P;
     }
 
 -- the header h, with tables that hold L and P, in the edition e
@@ -46,7 +46,7 @@ module _ (e : Edition) (h L P : List ℕ) where
     no-param-room : {K : List Link} → length h ≤ limit → Reading (further e) h K → length K ≤ linkRoom L
         → paramRoom P < countParams K → ReadIn (refused L P noParamRoom 0)
     reads : {K : List Link} → length h ≤ limit → Reading (further e) h K → length K ≤ linkRoom L → countParams K ≤ paramRoom P
-        → ReadIn (filled L P K)
+        → ReadIn (filled h L P K)
 
 -- asked with the number n of an edition
 abbrev pub Read : ℕ → List ℕ → List ℕ → List ℕ → ReadOut → Type 0

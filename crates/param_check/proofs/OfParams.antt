@@ -1,8 +1,8 @@
 -- A loop that passes the parameters of a link: it stands at the kth, and those that are left tell what all of them are.
-use Prim.Native.Nat.{ℕ, suc, _+_, _-_, _≤_, _<_}
+use Prim.Native.Nat.{ℕ, zero, suc, _+_, _-_, _≤_, _<_}
 use native.Mathlib.Omega.{arith}
 use native.Mathlib.Nat.{add-zero, sub-zero}
-use mathlib.Core.Path.{_≡_, refl, sym, subst, _∙_}
+use mathlib.Core.Path.{_≡_, refl, sym, ap, subst, _∙_}
 use mathlib.Core.Bool.{Bool, true, false, _&&_, not, false≢true}
 use mathlib.Core.List.{List, [], _∷_}
 use borrow.Author.Tests.{not-true}
@@ -11,8 +11,10 @@ use Rattle.grammar.specs.Link.{Param}
 use Rattle.grammar.specs.Grammar.{Extra}
 use Rattle.grammar.specs.Kept.{nameOf, among, isOnce, codeOf}
 use Rattle.tables.specs.Table.{paramAt, paramsFrom}
-use Rattle.tables.specs.Good.{each-none, each-more, onceEach, GoodParam}
+use Rattle.tables.specs.Good.{each-none, each-more, onceEach, GoodParam, Agrees}
 use Rattle.tables.proofs.InGood.{head-of, tail-of}
+use Rattle.records.specs.Slots.{IsParam, toParam}
+use Rattle.records.specs.declared.ParamRecord.{ParamRecord}
 use Rattle.names.specs.Remembers.{Remembers, noneSeen, hasCode, withCode}
 use Rattle.names.specs.declared.Seen.{Seen}
 use Rattle.names.proofs.Seeing.{nothing-seen, has-told, seen-with}
@@ -24,26 +26,48 @@ use Rattle.part_check.proofs.Deciding.{is-so, not-so}
 abbrev repeats : List ℕ → List (List ℕ) → Param → Bool
 repeats s earlier p = isOnce (nameOf s p) && among earlier (nameOf s p)
 
-record FirstParam (extra : Extra) (s : List ℕ) (earlier : List (List ℕ)) (p : Param) (ps : List Param) : Type 0 where
-  good : GoodParam extra s p
-  new : repeats s earlier p ≡ false
-  rest : GoodParams extra s (nameOf s p ∷ earlier) ps
+-- the first of n + 1 records from number j on, and the rest
+record FirstParam (extra : Extra) (s P : List ℕ) (earlier : List (List ℕ)) (j n : ℕ) : Type 0 where
+  good : GoodParam extra s (paramAt P j)
+  agrees : Agrees s P j
+  new : repeats s earlier (paramAt P j) ≡ false
+  rest : GoodParams extra s P (nameOf s (paramAt P j) ∷ earlier) (suc j) n
 
-module _ {extra : Extra} {s : List ℕ} {earlier : List (List ℕ)} {p : Param} {ps : List Param} where
-  split : GoodParams extra s earlier (p ∷ ps) → FirstParam extra s earlier p ps
+module _ {extra : Extra} {s P : List ℕ} {earlier : List (List ℕ)} {j n : ℕ} where
+  split : GoodParams extra s P earlier j (suc n) → FirstParam extra s P earlier j n
   split g =
-      let o = both (not (repeats s earlier p)) (onceEach s (nameOf s p ∷ earlier) ps) (g .once) in
-      record { good = head-of (g .each); new = not-true (repeats s earlier p) (o .0); rest = record { each = tail-of (g .each); once = o .1 } }
+      let p = paramAt P j in
+      let o = both (not (repeats s earlier p)) (onceEach s (nameOf s p ∷ earlier) (paramsFrom P (suc j) n)) (g .once) in
+      record {
+        good = head-of (g .each);
+        agrees = subst (Agrees s P) (add-zero j) (g .codes 0 (omega arith));
+        new = not-true (repeats s earlier p) (o .0);
+        rest =
+            record {
+              each = tail-of (g .each);
+              once = o .1;
+              codes = λ k l. let e : j + suc k ≡ suc j + k = omega arith in subst (Agrees s P) e (g .codes (suc k) (omega arith));
+            };
+      }
 
-  joined : FirstParam extra s earlier p ps → GoodParams extra s earlier (p ∷ ps)
-  joined g = record { each = each-more (g .good) (g .rest .each); once = rw (g .new) (g .rest .once) }
+  joined : FirstParam extra s P earlier j n → GoodParams extra s P earlier j (suc n)
+  joined g =
+      record {
+        each = each-more (g .good) (g .rest .each);
+        once = rw (g .new) (g .rest .once);
+        codes = codes;
+      }
+    where
+      codes : (k : ℕ) → k < suc n → Agrees s P (j + k)
+      codes zero l = subst (Agrees s P) (sym (add-zero j)) (g .agrees)
+      codes (suc k) l = let e : suc j + k ≡ j + suc k = omega arith in subst (Agrees s P) e (g .rest .codes k (omega arith))
 
 module _ (extra : Extra) (s P : List ℕ) (first count : ℕ) where
   abbrev ParamsLeft : List (List ℕ) → ℕ → Type 0
-  ParamsLeft earlier k = GoodParams extra s earlier (paramsFrom P (first + k) (count - k))
+  ParamsLeft earlier k = GoodParams extra s P earlier (first + k) (count - k)
 
   abbrev AllParams : Type 0
-  AllParams = GoodParams extra s [] (paramsFrom P first count)
+  AllParams = GoodParams extra s P [] first count
 
   pub record Checked (seen : Seen) (k : ℕ) : Type 0 where
     pub within : k ≤ count
@@ -66,35 +90,56 @@ module _ {extra : Extra} {s P : List ℕ} {first count : ℕ} where
   module _ {seen : Seen} {k : ℕ} (w : Checked extra s P first count seen k) where
     pub through : count ≤ k → Decides true (AllParams extra s P first count)
     through h =
-        let z : count - k ≡ 0 = omega arith in is-so (w .back (rw z (record { each = each-none; once = refl })))
+        let z : count - k ≡ 0 = omega arith in
+        is-so (w .back (rw z (record { each = each-none; once = refl; codes = λ j l. absurd (omega arith) })))
 
-    module _ (l : k < count) {q : Param} (e : q ≡ paramAt P (first + k)) where
-      front : paramsFrom P (first + k) (count - k) ≡ q ∷ paramsFrom P (first + (k + 1)) (count - (k + 1))
-      front =
-          let more : count - k ≡ suc (count - (k + 1)) = omega arith in
-          let next : first + (k + 1) ≡ suc (first + k) = omega arith in rw (more, next, e)
+    -- the record r at number n, the kth of the link
+    module _ (l : k < count) {n : ℕ} (at : n ≡ first + k) {r : ParamRecord} (is : IsParam P n r) where
+      abbrev q : Param
+      q = toParam (r .parts)
 
-      apart : AllParams extra s P first count → FirstParam extra s (w .earlier) q (paramsFrom P (first + (k + 1)) (count - (k + 1)))
-      apart g = split (subst (GoodParams extra s (w .earlier)) front (w .on g))
+      same : q ≡ paramAt P (first + k)
+      same = rw at at (is .parts)
+
+      more : count - k ≡ suc (count - (k + 1))
+      more = omega arith
+
+      next : first + (k + 1) ≡ suc (first + k)
+      next = omega arith
+
+      apart : AllParams extra s P first count → FirstParam extra s P (w .earlier) (first + k) (count - (k + 1))
+      apart g = split (rw more at (w .on g))
 
       pub bad-param : (GoodParam extra s q → ⊥) → Decides false (AllParams extra s P first count)
-      bad-param n = not-so (λ g. n (apart g .good))
+      bad-param bad = not-so (λ g. bad (rw same (apart g .good)))
 
-      module _ {c : ℕ} {r : Bool} (coded : c ≡ codeOf (nameOf s q)) (asked : r ≡ hasCode seen c) where
-        told : r ≡ (isOnce (nameOf s q) && among (w .earlier) (nameOf s q))
-        told = has-told (w .seen-earlier) (nameOf s q) coded asked
+      module _ {c : ℕ} (coded : c ≡ codeOf (nameOf s q)) where
+        agreed : c ≡ r .code → Agrees s P (first + k)
+        agreed e = sym (rw at at (is .code)) ∙ sym e ∙ coded ∙ ap (λ (p : Param). codeOf (nameOf s p)) same
 
-        pub repeated : r ≡ true → Decides false (AllParams extra s P first count)
-        repeated t = not-so (λ g. false≢true (sym (apart g .new) ∙ sym told ∙ t))
+        pub miscoded : (c ≡ r .code → ⊥) → Decides false (AllParams extra s P first count)
+        miscoded bad =
+            not-so
+            (λ g. bad (coded ∙ ap (λ (p : Param). codeOf (nameOf s p)) same ∙ sym (apart g .agrees) ∙ sym (rw at at (is .code))))
 
-        pub passed : {new : Seen} → r ≡ false → GoodParam extra s q → new ≡ withCode seen c → Checked extra s P first count new (k + 1)
-        passed f good n =
-            record {
-              within = omega arith;
-              earlier = nameOf s q ∷ w .earlier;
-              seen-earlier = seen-with (w .seen-earlier) (nameOf s q) coded n;
-              back =
-                  λ g.
-                  w .back (subst (GoodParams extra s (w .earlier)) (sym front) (joined (record { good = good; new = sym told ∙ f; rest = g })));
-              on = λ g. apart g .rest;
-            }
+        module _ {b : Bool} (asked : b ≡ hasCode seen c) where
+          told : b ≡ repeats s (w .earlier) (paramAt P (first + k))
+          told = has-told (w .seen-earlier) (nameOf s q) coded asked ∙ ap (repeats s (w .earlier)) same
+
+          pub repeated : b ≡ true → Decides false (AllParams extra s P first count)
+          repeated t = not-so (λ g. false≢true (sym (apart g .new) ∙ sym told ∙ t))
+
+          pub passed : {new : Seen} → c ≡ r .code → b ≡ false → GoodParam extra s q → new ≡ withCode seen c
+              → Checked extra s P first count new (k + 1)
+          passed {new} a f good n =
+              record {
+                within = omega arith;
+                earlier = nameOf s (paramAt P (first + k)) ∷ w .earlier;
+                seen-earlier =
+                    subst (λ (p : Param). Remembers new (nameOf s p ∷ w .earlier)) same (seen-with (w .seen-earlier) (nameOf s q) coded n);
+                back =
+                    λ g.
+                    w .back
+                    (rw more (joined (record { good = rw same at good; agrees = agreed a; new = sym told ∙ f; rest = rw next at g })));
+                on = λ g. rw next (apart g .rest);
+              }

@@ -3,7 +3,6 @@ ghost use Prim.Native.Nat.{_+_, _≤_};
 ghost use mathlib.Core.List.{[]};
 ghost use Rattle.octets.specs.Editions.{further};
 ghost use Rattle.grammar.specs.Records.{paramRoom};
-ghost use Rattle.tables.specs.Table.{paramsFrom};
 ghost use Rattle.tables.specs.Good.{InText, GoodValue, GoodParam};
 ghost use Rattle.records.specs.Slots.{toParam};
 ghost use Rattle.part_check.specs.Decides.{Decides};
@@ -16,12 +15,12 @@ use part_check::is_part;
 use part_check::is_span;
 use part_check::is_token_part;
 use part_check::is_wider_part;
-use records::ParamRecord;
+use records::ParamParts;
 use records::param_at;
 
 // Whether the form is 3, and the value is what the edition allows without quotes though it is no token. The edition is asked first, so
 // that RFC 8288's pays nothing for the form.
-fn is_wider_value(edition: Edition, s: &[u8], p: ParamRecord) -> bool
+fn is_wider_value(edition: Edition, s: &[u8], p: ParamParts) -> bool
     requires { ⌜ InText (now s) (p .value .from .0) (p .value .to .0) ⌝ }
     ensures { λ r. ⌜ Decides r (WiderValue (further edition) (now (s .entry)) (toParam p)) ⌝ }
 {
@@ -32,7 +31,7 @@ fn is_wider_value(edition: Edition, s: &[u8], p: ParamRecord) -> bool
 }
 
 // Whether the form is 0, 1, 2 or, where the edition has further octets, 3, and the value is as its form says.
-fn is_good_value(edition: Edition, s: &[u8], p: ParamRecord) -> bool
+fn is_good_value(edition: Edition, s: &[u8], p: ParamParts) -> bool
     requires { ⌜ InText (now s) (p .value .from .0) (p .value .to .0) ⌝ }
     ensures { λ r. ⌜ Decides r (GoodValue (further edition) (now (s .entry)) (toParam p)) ⌝ }
 {
@@ -47,7 +46,7 @@ fn is_good_value(edition: Edition, s: &[u8], p: ParamRecord) -> bool
 }
 
 // Whether the spans lie in the text, and the name and the value obey the grammar.
-fn is_good_param(edition: Edition, s: &[u8], p: ParamRecord) -> bool
+fn is_good_param(edition: Edition, s: &[u8], p: ParamParts) -> bool
     ensures { λ r. ⌜ Decides r (GoodParam (further edition) (now (s .entry)) (toParam p)) ⌝ }
 {
     let name = p.name;
@@ -58,7 +57,8 @@ fn is_good_param(edition: Edition, s: &[u8], p: ParamRecord) -> bool
     false
 }
 
-// Whether `count` parameters from `first` on are good, and no two of them share a name kept once.
+// Whether `count` parameters from `first` on are good, their codes agree with their names, and no two of them share a name kept once.
+// Here alone a name is looked at: whoever looks a parameter up later goes by its code.
 pub fn are_good_params(
     edition: Edition,
     s: &[u8],
@@ -67,18 +67,19 @@ pub fn are_good_params(
     count: usize,
 ) -> bool
     requires { ⌜ first .0 + count ≤ paramRoom (now slots) ⌝ }
-    ensures { λ r. ⌜ Decides r (GoodParams (further edition) (now (s .entry)) [] (paramsFrom (now (slots .entry)) (first .0) count)) ⌝ }
+    ensures { λ r. ⌜ Decides r (GoodParams (further edition) (now (s .entry)) (now (slots .entry)) [] (first .0) count) ⌝ }
 {
     let mut seen = Seen::none();
     let mut k = 0;
     while k < count {
         let p = param_at(slots, first.plus(k));
-        if !is_good_param(edition, s, p) {
+        let parts = p.parts;
+        if !is_good_param(edition, s, parts) {
             return false;
         }
-        let name = p.name;
+        let name = parts.name;
         let code = names::code(s, name);
-        if seen.has(code) {
+        if code != p.code || seen.has(code) {
             return false;
         }
         seen = seen.with(code);

@@ -18,7 +18,7 @@ use putting::escaped::put_escaped;
 use putting::part::put_folded;
 use putting::put;
 use putting::put_two;
-use records::ParamRecord;
+use records::ParamParts;
 use shape::is_bare;
 use values::copy_meaning;
 
@@ -35,7 +35,7 @@ fn put_in_quotes(s: &[u8], part: Span, out: &mut [u8], at: OutPlace) -> OutPlace
 }
 
 // A parameter's value, bare or in quotes.
-fn put_value(text: &[u8], p: ParamRecord, out: &mut [u8], at: OutPlace) -> OutPlace
+fn put_value(text: &[u8], p: ParamParts, out: &mut [u8], at: OutPlace) -> OutPlace
     requires { ⌜ GoodParam (further Rfc5988) (now text) (toParam p) ⌝ }
     requires { ⌜ at .0 + length (writtenValue (valueOf (now text) (toParam p))) ≤ length (now out) ⌝ }
     ensures { λ r. ⌜
@@ -48,7 +48,7 @@ fn put_value(text: &[u8], p: ParamRecord, out: &mut [u8], at: OutPlace) -> OutPl
 }
 
 // One parameter: `;`, space, folded name, `=`, value.
-fn put_param(text: &[u8], p: ParamRecord, out: &mut [u8], at: OutPlace) -> OutPlace
+fn put_param(text: &[u8], p: ParamParts, out: &mut [u8], at: OutPlace) -> OutPlace
     requires { ⌜ GoodParam (further Rfc5988) (now text) (toParam p) ⌝ }
     requires { ⌜ at .0 + length (paramForm (now text) (toParam p)) ≤ length (now out) ⌝ }
     ensures { λ r. ⌜ Put (now (out .entry)) (now (out .exit)) (at .0) (r .0) (paramForm (now (text .entry)) (toParam p)) ⌝ }
@@ -76,7 +76,7 @@ pub fn put_params(
     let mut to = at;
     let mut p = first;
     while p.0 < end.0 {
-        let param = records::param_at(params, p);
+        let param = records::parts_at(params, p);
         to = put_param(text, param, out, to);
         p = p.next();
     }

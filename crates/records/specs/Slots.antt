@@ -5,8 +5,9 @@ use mathlib.Core.List.{List, [], _∷_}
 use lib.ListN.{getD}
 use Rattle.grammar.specs.Link.{Link, Param}
 use Rattle.grammar.specs.Records.{linkWidth}
-use Rattle.tables.specs.Table.{firstOf, countOf, paramsFrom}
+use Rattle.tables.specs.Table.{paramAt, codeAt, firstOf, countOf, paramsFrom}
 use Rattle.records.specs.declared.LinkRecord.{LinkRecord}
+use Rattle.records.specs.declared.ParamParts.{ParamParts}
 use Rattle.records.specs.declared.ParamRecord.{ParamRecord}
 
 -- the record r is link record number n of the slots L
@@ -25,8 +26,8 @@ toLink P l =
       params = paramsFrom P (l .first .0) (l .count);
     }
 
--- a parameter record as the spans and the form that it holds
-abbrev pub toParam : ParamRecord → Param
+-- the parameter of these parts
+abbrev pub toParam : ParamParts → Param
 toParam r =
     record {
       nameFrom = r .name .from .0;
@@ -36,10 +37,15 @@ toParam r =
       form = r .form;
     }
 
+-- the record r is parameter record number n of the slots P
+pub record IsParam (P : List ℕ) (n : ℕ) (r : ParamRecord) : Type 0 where
+  pub parts : toParam (r .parts) ≡ paramAt P n
+  pub code : r .code ≡ codeAt P n
+
 -- the numbers of a record, as they stand in slots
 abbrev pub linkNumbers : LinkRecord → List ℕ
 linkNumbers r = r .target .from .0 ∷ r .target .to .0 ∷ r .first .0 ∷ r .count ∷ []
 
 abbrev pub paramNumbers : ParamRecord → List ℕ
 paramNumbers r =
-    r .name .from .0 ∷ r .name .to .0 ∷ r .value .from .0 ∷ r .value .to .0 ∷ r .form ∷ []
+    r .parts .name .from .0 ∷ r .parts .name .to .0 ∷ r .parts .value .from .0 ∷ r .parts .value .to .0 ∷ r .parts .form ∷ r .code ∷ []

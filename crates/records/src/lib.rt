@@ -3,8 +3,8 @@ ghost use mathlib.Core.Path.{_≡_};
 ghost use Prim.Native.Nat.{_*_, _<_};
 ghost use lib.Seq.{sets};
 ghost use Rattle.grammar.specs.Records.{linkWidth, paramWidth, linkRoom, paramRoom};
-ghost use Rattle.tables.specs.Table.{paramAt};
-ghost use Rattle.records.specs.Slots.{IsLink, toParam, linkNumbers, paramNumbers};
+ghost use Rattle.tables.specs.Table.{paramAt, codeAt};
+ghost use Rattle.records.specs.Slots.{IsLink, IsParam, toParam, linkNumbers, paramNumbers};
 use kinds::LinkNumber;
 use kinds::ParamNumber;
 use kinds::Place;
@@ -14,7 +14,7 @@ use kinds::Span;
 pub const LINK_SLOTS: usize = 4;
 
 // How many slots a parameter record takes.
-pub const PARAM_SLOTS: usize = 5;
+pub const PARAM_SLOTS: usize = 6;
 
 // A link record.
 pub struct LinkRecord {
@@ -23,11 +23,17 @@ pub struct LinkRecord {
     pub count: usize,
 }
 
-// A parameter record.
-pub struct ParamRecord {
+// The parts of a parameter: where its name and its value stand, and the value's form.
+pub struct ParamParts {
     pub name: Span,
     pub value: Span,
     pub form: usize,
+}
+
+// A parameter record: the parts, and the code of the name.
+pub struct ParamRecord {
+    pub parts: ParamParts,
+    pub code: usize,
 }
 
 impl LinkRecord {
@@ -50,11 +56,12 @@ impl ParamRecord {
         ensures { λ r. ⌜ r ≡ paramNumbers self ⌝ }
     {
         [
-            self.name.from.0,
-            self.name.to.0,
-            self.value.from.0,
-            self.value.to.0,
-            self.form,
+            self.parts.name.from.0,
+            self.parts.name.to.0,
+            self.parts.value.from.0,
+            self.parts.value.to.0,
+            self.parts.form,
+            self.code,
         ]
     }
 }
@@ -89,13 +96,13 @@ pub fn link_at(slots: &[usize], n: LinkNumber) -> LinkRecord
     }
 }
 
-// Parameter record number n.
-pub fn param_at(slots: &[usize], n: ParamNumber) -> ParamRecord
+// The parts in parameter record number n.
+pub fn parts_at(slots: &[usize], n: ParamNumber) -> ParamParts
     requires { ⌜ n .0 < paramRoom (now slots) ⌝ }
     ensures { λ r. ⌜ toParam r ≡ paramAt (now (slots .entry)) (n .0) ⌝ }
 {
     let at = PARAM_SLOTS * n.0;
-    ParamRecord {
+    ParamParts {
         name: Span {
             from: Place(slots[at]),
             to: Place(slots[at + 1]),
@@ -106,6 +113,24 @@ pub fn param_at(slots: &[usize], n: ParamNumber) -> ParamRecord
         },
         form: slots[at + 4],
     }
+}
+
+// The code in parameter record number n.
+pub fn code_at(slots: &[usize], n: ParamNumber) -> usize
+    requires { ⌜ n .0 < paramRoom (now slots) ⌝ }
+    ensures { λ r. ⌜ r ≡ codeAt (now (slots .entry)) (n .0) ⌝ }
+{
+    slots[PARAM_SLOTS * n.0 + 5]
+}
+
+// Parameter record number n.
+pub fn param_at(slots: &[usize], n: ParamNumber) -> ParamRecord
+    requires { ⌜ n .0 < paramRoom (now slots) ⌝ }
+    ensures { λ r. ⌜ IsParam (now (slots .entry)) (n .0) r ⌝ }
+{
+    let parts = parts_at(slots, n);
+    let code = code_at(slots, n);
+    ParamRecord { parts, code }
 }
 
 // Writes link record number n.
@@ -126,9 +151,10 @@ pub fn put_param(slots: &mut [usize], n: ParamNumber, r: ParamRecord)
     ensures { λ _. ⌜ now (slots .exit) ≡ sets (now (slots .entry)) (paramWidth * n .0) (paramNumbers r) ⌝ }
 {
     let at = PARAM_SLOTS * n.0;
-    slots[at] = r.name.from.0;
-    slots[at + 1] = r.name.to.0;
-    slots[at + 2] = r.value.from.0;
-    slots[at + 3] = r.value.to.0;
-    slots[at + 4] = r.form;
+    slots[at] = r.parts.name.from.0;
+    slots[at + 1] = r.parts.name.to.0;
+    slots[at + 2] = r.parts.value.from.0;
+    slots[at + 3] = r.parts.value.to.0;
+    slots[at + 4] = r.parts.form;
+    slots[at + 5] = r.code;
 }

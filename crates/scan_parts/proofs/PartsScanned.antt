@@ -7,7 +7,7 @@ use Rattle.octets.specs.Sets.{isBlank, isToken}
 use Rattle.grammar.specs.Grammar.{Extra, At}
 use Rattle.kinds.specs.declared.Place.{Place}
 use Rattle.kinds.specs.declared.Span.{Span}
-use Rattle.records.specs.declared.ParamRecord.{ParamRecord}
+use Rattle.records.specs.declared.ParamParts.{ParamParts}
 use Rattle.cursor.specs.Passed.{Passed}
 use Rattle.cursor.specs.declared.Cursor.{Cursor}
 use Rattle.scan_parts.specs.declared.Scan.{Scan}
@@ -58,7 +58,7 @@ module _ {extra : Extra} {s : List ℕ} where
       → FromTo name a e → At s k 61 → j ≡ k + 1 → Passed isBlank s j v → ValueScanned extra s name v u → ParamScanned extra s a u
   value-scanned {a} {e} {v = v} {name = name} t n b x q m w i = go i
     where
-      named : (r : ParamRecord) → r .name ≡ name → FromTo (r .name) a e
+      named : (r : ParamParts) → r .name ≡ name → FromTo (r .name) a e
       named r y = subst (λ (z : Span). FromTo z a e) (sym y) x
 
       go : {u : ParamScan} → ValueScanned extra s name v u → ParamScanned extra s a u

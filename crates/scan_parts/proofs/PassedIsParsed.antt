@@ -13,7 +13,7 @@ use Rattle.grammar.specs.Link.{Param}
 use Rattle.grammar.specs.Grammar.{Extra, isBare, At, Inside}
 use Rattle.grammar.specs.Machine.{param}
 use Rattle.kinds.specs.declared.Span.{Span}
-use Rattle.records.specs.declared.ParamRecord.{ParamRecord}
+use Rattle.records.specs.declared.ParamParts.{ParamParts}
 use Rattle.records.specs.Slots.{toParam}
 use Rattle.cursor.specs.Passed.{Passed}
 use Rattle.scan_parts.specs.Parsed.{ParsedValue, a-token, a-wider, a-quoted, Parsed, without, with}
@@ -24,7 +24,7 @@ abbrev pub FromTo : Span → ℕ → ℕ → Type 0
 FromTo a b e = (a .from .0 ≡ b) × (a .to .0 ≡ e)
 
 -- a record of such spans
-same-param : (r : ParamRecord) {n e a b f : ℕ} → FromTo (r .name) n e → FromTo (r .value) a b → r .form ≡ f
+same-param : (r : ParamParts) {n e a b f : ℕ} → FromTo (r .name) n e → FromTo (r .value) a b → r .form ≡ f
     → param n e a b f ≡ toParam r
 same-param r x y z = rw (x .0, x .1, y .0, y .1, z)
 
@@ -56,7 +56,7 @@ module _ {extra : Extra} {s : List ℕ} where
       subst₃ (λ (y z g : ℕ). ParsedValue extra s v y z g e) (sym (x .0)) (sym (x .1)) (sym f)
       (bare-parsed-at t w (omega (arith, t .forward, w .forward, n)))
 
-  module _ {a e k : ℕ} {r : ParamRecord} (t : Passed isToken s a e) (n : e ≡ a → ⊥) (b : Passed isBlank s e k)
+  module _ {a e k : ℕ} {r : ParamParts} (t : Passed isToken s a e) (n : e ≡ a → ⊥) (b : Passed isBlank s e k)
       (x : FromTo (r .name) a e) where
     pub flag-parsed : (k < length s → eqb (getD s k 0) 61 ≡ false) → FromTo (r .value) e e → r .form ≡ 0 → Parsed extra s a (toParam r) k
     flag-parsed q y z = subst (λ (p : Param). Parsed extra s a p k) (same-param r x y z) (without (first-of t n) t b q)

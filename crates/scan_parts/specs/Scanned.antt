@@ -12,7 +12,7 @@ use Rattle.grammar.specs.Place.{MalformedAt}
 use Rattle.grammar.specs.Machine.{target, percent, semi, equals, quote, Open}
 use Rattle.kinds.specs.declared.Place.{Place}
 use Rattle.kinds.specs.declared.Span.{Span}
-use Rattle.records.specs.declared.ParamRecord.{ParamRecord}
+use Rattle.records.specs.declared.ParamParts.{ParamParts}
 use Rattle.records.specs.Slots.{toParam}
 use Rattle.cursor.specs.declared.Cursor.{Cursor}
 use Rattle.scan_parts.specs.declared.Scan.{Scan}
@@ -49,10 +49,10 @@ pub data InsideScanned (s : List ℕ) (a : ℕ) : Scan → Type 0 where
 pub data ValueScanned (extra : Extra) (s : List ℕ) (name : Span) (v : ℕ) : ParamScan → Type 0 where
   no-value : {p : Place} → ((o : Open) (n e : ℕ) → Stands extra s (equals o n e) v → MalformedAt extra s (p .0))
       → ValueScanned extra s name v (NoParam p)
-  a-value : {r : ParamRecord} {c : Cursor} → r .name ≡ name
+  a-value : {r : ParamParts} {c : Cursor} → r .name ≡ name
       → ParsedValue extra s v (r .value .from .0) (r .value .to .0) (r .form) (c .at .0) → ValueScanned extra s name v (Param r c)
 
 -- a parameter from place a on
 pub data ParamScanned (extra : Extra) (s : List ℕ) (a : ℕ) : ParamScan → Type 0 where
   no-param : {p : Place} → ((o : Open) → Stands extra s (semi o) a → MalformedAt extra s (p .0)) → ParamScanned extra s a (NoParam p)
-  a-param : {r : ParamRecord} {c : Cursor} → Parsed extra s a (toParam r) (c .at .0) → ParamScanned extra s a (Param r c)
+  a-param : {r : ParamParts} {c : Cursor} → Parsed extra s a (toParam r) (c .at .0) → ParamScanned extra s a (Param r c)

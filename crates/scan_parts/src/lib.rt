@@ -2,7 +2,7 @@
 // which the header is malformed.
 use cursor::Cursor;
 use kinds::Place;
-use records::ParamRecord;
+use records::ParamParts;
 
 pub mod param;
 mod quoted;
@@ -18,5 +18,5 @@ pub enum Scan {
 // A parameter's record, and the cursor behind it.
 pub enum ParamScan {
     NoParam(Place),
-    Param(ParamRecord, Cursor),
+    Param(ParamParts, Cursor),
 }

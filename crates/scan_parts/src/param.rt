@@ -6,7 +6,7 @@ use crate::ParamScan;
 use crate::value::past_value;
 use cursor::Cursor;
 use octets::editions::Edition;
-use records::ParamRecord;
+use records::ParamParts;
 
 pub fn past_param(edition: Edition, s: &[u8], from: Cursor) -> ParamScan
     requires { ⌜ Clear (now s) (from .at .0) ⌝ }
@@ -24,7 +24,7 @@ pub fn past_param(edition: Edition, s: &[u8], from: Cursor) -> ParamScan
     }
     let value = e.span_to(e);
     ParamScan::Param(
-        ParamRecord {
+        ParamParts {
             name,
             value,
             form: 0,

@@ -11,7 +11,7 @@ use crate::quoted::past_inside;
 use cursor::Cursor;
 use kinds::Span;
 use octets::editions::Edition;
-use records::ParamRecord;
+use records::ParamParts;
 
 // The form of a value without quotes whose token octets end at k, and all of whose octets end at e.
 pub fn bare_form(k: Cursor, e: Cursor) -> usize
@@ -32,7 +32,7 @@ pub fn past_value(edition: Edition, s: &[u8], name: Span, from: Cursor) -> Param
             Scan::Past(q) => {
                 let value = start.span_to(q);
                 ParamScan::Param(
-                    ParamRecord {
+                    ParamParts {
                         name,
                         value,
                         form: 2,
@@ -50,5 +50,5 @@ pub fn past_value(edition: Edition, s: &[u8], name: Span, from: Cursor) -> Param
     }
     let value = from.span_to(e);
     let form = bare_form(k, e);
-    ParamScan::Param(ParamRecord { name, value, form }, e)
+    ParamScan::Param(ParamParts { name, value, form }, e)
 }

@@ -17,7 +17,7 @@ use Rattle.grammar.specs.Kept.{nameOf, among, isOnce, keepAfter, codeOf}
 use Rattle.grammar.specs.Machine.{semi}
 use Rattle.tables.specs.Good.{InText}
 use Rattle.kinds.specs.declared.Place.{Place}
-use Rattle.records.specs.declared.ParamRecord.{ParamRecord}
+use Rattle.records.specs.declared.ParamParts.{ParamParts}
 use Rattle.records.specs.Slots.{toParam}
 use Rattle.cursor.specs.Passed.{Passed, Looked}
 use Rattle.cursor.specs.declared.Cursor.{Cursor}
@@ -51,7 +51,7 @@ module _ {extra : Extra} {s : List ℕ} where
   few-so-far {qs = qs} g =
       omega (arith, g .kept, keep-fewer s [] (reverse qs), length-reverse qs, chain-forward (g .chain))
 
-  pub more : {a i j k e n m c : ℕ} {x y : Seen} {b : Bool} {r : ParamRecord} {d : Cursor} {u : ParamScan} {qs : List Param}
+  pub more : {a i j k e n m c : ℕ} {x y : Seen} {b : Bool} {r : ParamParts} {d : Cursor} {u : ParamScan} {qs : List Param}
       → ParamsSoFar extra s a i n x qs → Passed isBlank s i j → At s j 59 → k ≡ j + 1 → Passed isBlank s k e → ParamScanned extra s e u → u ≡ AParam r d
       → c ≡ codeOf (folded (slice (r .name .from .0) (r .name .to .0) s)) → b ≡ hasCode x c → m ≡ n + cond b 0 1
       → y ≡ withCode x c → ParamsSoFar extra s a (d .at .0) m y (toParam r ∷ qs)
@@ -72,7 +72,7 @@ module _ {extra : Extra} {s : List ℕ} where
           }
 
   -- what was passed lies in the text, and the name too
-  pub param-inside : {e : ℕ} {r : ParamRecord} {d : Cursor} {u : ParamScan} → ParamScanned extra s e u → u ≡ AParam r d
+  pub param-inside : {e : ℕ} {r : ParamParts} {d : Cursor} {u : ParamScan} → ParamScanned extra s e u → u ≡ AParam r d
       → (e < d .at .0) × (d .at .0 ≤ length s) × InText s (r .name .from .0) (r .name .to .0)
   param-inside {e} {r} {d} u z = go (subst (ParamScanned extra s e) z u)
     where

@@ -36,10 +36,10 @@ fn first_with(
         let mut p = link.first;
         let end = p.plus(link.count);
         while p.0 < end.0 {
-            let param = records::param_at(params, p);
-            if names::code(text, param.name) == names::REL {
-                let e = param.value.to;
-                let mut k = next_run(text, param.value.from, e);
+            if records::code_at(params, p) == names::REL {
+                let value = records::parts_at(params, p).value;
+                let e = value.to;
+                let mut k = next_run(text, value.from, e);
                 while k.0 < e.0 {
                     let m = match_run(text, k, e, relation);
                     if m.same {

@@ -9,7 +9,7 @@ use Rattle.octets.specs.declared.editions.Edition.the-variants.{Rfc5988}
 use Rattle.grammar.specs.Records.{paramRoom}
 use Rattle.records.specs.Slots.{IsLink, toParam}
 use Rattle.records.specs.declared.LinkRecord.{LinkRecord}
-use Rattle.records.specs.declared.ParamRecord.{ParamRecord}
+use Rattle.records.specs.declared.ParamParts.{ParamParts}
 use Rattle.tables.specs.Table.{Table, paramAt}
 use Rattle.tables.specs.Good.{InText, GoodParam, Good}
 use Rattle.tables.proofs.InGood.{params-slots, good-param-at, good-link}
@@ -31,5 +31,5 @@ module _ {s P : List ℕ} {first end : ℕ} (g : GoodRun s P first end) {p : ℕ
   pub in-room : p < paramRoom P
   in-room = omega (arith, g .room)
 
-  pub good-next : {r : ParamRecord} → toParam r ≡ paramAt P p → GoodParam (further Rfc5988) s (toParam r)
+  pub good-next : {r : ParamParts} → toParam r ≡ paramAt P p → GoodParam (further Rfc5988) s (toParam r)
   good-next is = rw is (g .good p i l)

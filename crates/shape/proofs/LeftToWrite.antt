@@ -9,7 +9,7 @@ use borrow.Author.Tests.{ne-eqb}
 use Rattle.grammar.specs.Link.{Link}
 use Rattle.records.specs.Slots.{IsLink, toLink, toParam}
 use Rattle.records.specs.declared.LinkRecord.{LinkRecord}
-use Rattle.records.specs.declared.ParamRecord.{ParamRecord}
+use Rattle.records.specs.declared.ParamParts.{ParamParts}
 use Rattle.outcomes.specs.Write.{writtenForm}
 use Rattle.tables.specs.Table.{Table, paramAt, paramsFrom, linkAt, linksFrom, linksOf}
 use Rattle.tables.specs.Meaning.{meanings}
@@ -22,7 +22,7 @@ module _ (s P : List ℕ) {end p : ℕ} where
   pub params-end : end ≤ p → paramsLeft s P end p ≡ []
   params-end l = let e : end - p ≡ 0 = omega arith in rw e
 
-  pub params-next : p < end → {r : ParamRecord} → toParam r ≡ paramAt P p
+  pub params-next : p < end → {r : ParamParts} → toParam r ≡ paramAt P p
       → paramsLeft s P end p ≡ paramForm s (toParam r) ++ paramsLeft s P end (suc p)
   params-next l is = let e : end - p ≡ suc (end - suc p) = omega arith in rw (e, is)
 

@@ -13,7 +13,7 @@ ghost use Rattle.values.specs.Rest.{rest};
 ghost use Rattle.shape.specs.Shape.{escapedLen, lenFor};
 use kinds::Span;
 use octets::sets::is_token;
-use records::ParamRecord;
+use records::ParamParts;
 use values::meant_at;
 
 // The form of a value that is a token.
@@ -59,7 +59,7 @@ fn meant_len(s: &[u8], part: Span) -> usize
 }
 
 // How many octets a parameter's value takes. A token takes as many as it has, and isn't looked at again.
-pub fn value_len(text: &[u8], p: ParamRecord) -> usize
+pub fn value_len(text: &[u8], p: ParamParts) -> usize
     requires { ⌜ GoodParam (further Rfc5988) (now text) (toParam p) ⌝ }
     requires { ⌜ length (now text) ≤ limit ⌝ }
     ensures { λ r. ⌜ r ≡ length (writtenValue (valueOf (now (text .entry)) (toParam p))) ⌝ }
@@ -93,7 +93,7 @@ fn means_token(s: &[u8], part: Span) -> bool
 }
 
 // Whether a parameter's value stands bare.
-pub fn is_bare(text: &[u8], p: ParamRecord) -> bool
+pub fn is_bare(text: &[u8], p: ParamParts) -> bool
     requires { ⌜ GoodParam (further Rfc5988) (now text) (toParam p) ⌝ }
     ensures { λ r. ⌜ r ≡ isTokenText (valueOf (now (text .entry)) (toParam p)) ⌝ }
 {

@@ -1,2 +1,3 @@
 -- What the crate `table_check` means by its words.
+pub mod Links
 pub mod State

@@ -2,10 +2,10 @@
 ghost use Prim.Native.Nat.{_+_, _≤_};
 ghost use Rattle.octets.specs.Editions.{further};
 ghost use Rattle.grammar.specs.Records.{paramRoom};
-ghost use Rattle.tables.specs.Good.{Good, GoodLink};
+ghost use Rattle.tables.specs.Good.{Good};
 ghost use Rattle.tables.specs.Table.{tableOf};
-ghost use Rattle.records.specs.Slots.{toLink};
 ghost use Rattle.part_check.specs.Decides.{Decides};
+ghost use Rattle.table_check.specs.Links.{CodedLink};
 use kinds::Counts;
 use kinds::LinkNumber;
 use kinds::ParamNumber;
@@ -22,7 +22,7 @@ use records::param_room;
 // Whether a link is good: its target, and its parameters.
 fn is_good_link(edition: Edition, s: &[u8], params: &[usize], l: LinkRecord) -> bool
     requires { ⌜ l .first .0 + l .count ≤ paramRoom (now params) ⌝ }
-    ensures { λ r. ⌜ Decides r (GoodLink (further edition) (now (s .entry)) (toLink (now (params .entry)) l)) ⌝ }
+    ensures { λ r. ⌜ Decides r (CodedLink (further edition) (now (s .entry)) (now (params .entry)) l) ⌝ }
 {
     let target = l.target;
     let first = l.first;
@@ -33,7 +33,7 @@ fn is_good_link(edition: Edition, s: &[u8], params: &[usize], l: LinkRecord) -> 
 }
 
 // Whether the counts fit the rooms, each link's parameters begin where the former's end, the last link's end at the parameter
-// count, and each link is good.
+// count, and each link is good, with codes that agree with the names.
 pub fn is_good(
     edition: Edition,
     text: &[u8],

@@ -2,7 +2,8 @@
 use Prim.Native.Nat.{ℕ, zero, suc, _+_, _≤_, _<_}
 use native.Mathlib.Omega.{arith}
 use native.Mathlib.Decide.{map-dec, decLe, decLt, ℕ-discrete}
-use mathlib.Core.Path.{_≡_, refl, subst}
+use native.Mathlib.Nat.{eq-or-lt-of-le}
+use mathlib.Core.Path.{_≡_, refl, sym, subst}
 use mathlib.Core.Bool.{Bool, true, Bool-discrete}
 use mathlib.Core.Logic.{_⊎_, inl, inr, ⊎-elim, Dec·and}
 use mathlib.Core.List.{List, [], _∷_}
@@ -11,8 +12,9 @@ use Rattle.octets.specs.Sets.{isToken, isPlain, isEscapable, isTarget, isHex}
 use Rattle.grammar.specs.Link.{Link, Param}
 use Rattle.grammar.specs.Grammar.{At, In, Run, run-end, run-more, Token, Inside, inside-end, plain, pair}
 use Rattle.grammar.specs.Grammar.{Target, target-end, octet, triple, Extra, isBare, Wider, from-token}
+use Rattle.grammar.specs.Kept.{nameOf, codeOf}
 use Rattle.grammar.specs.Records.{linkRoom, paramRoom}
-use Rattle.tables.specs.Table.{firstOf, countOf, linksOf}
+use Rattle.tables.specs.Table.{paramAt, codeAt, firstOf, countOf, linksOf}
 use Rattle.tables.specs.Good.{Each, each-none, each-more, Follows, onceEach, InText, GoodValue, no-value, token-value}
 use Rattle.tables.specs.Good.{quoted-value, wider-value, GoodParam, GoodLink}
 use Rattle.tables.specs.Laws.{GoodDecided}
@@ -224,10 +226,21 @@ follows? : (L : List ℕ) (i n at m : ℕ) → Dec (Follows L i n at m)
 follows? L i zero at m = ℕ-discrete at m
 follows? L i (suc n) at m = Dec·and (ℕ-discrete (firstOf L i) at) (follows? L (suc i) n (at + countOf L i) m)
 
+-- what is asked below n
+below? : {P : ℕ → Type 0} → ((j : ℕ) → Dec (P j)) → (n : ℕ) → Dec ((j : ℕ) → j < n → P j)
+below? d zero = yes (λ j l. absurd (omega arith))
+below? {P} d (suc n) = map-dec (λ p. joined (p .0) (p .1)) (λ h. (λ j l. h j (omega arith), h n (omega arith))) (Dec·and (below? d n) (d n))
+  where
+    joined : ((j : ℕ) → j < n → P j) → P n → (j : ℕ) → j < suc n → P j
+    joined h p j l = ⊎-elim (λ e. subst P (sym e) p) (h j) (eq-or-lt-of-le {n = j} {m = n} (omega arith))
+
 pub good-decided : GoodDecided
 good-decided extra t =
-    map-dec (λ q. record { link-room = q .0; param-room = q .1 .0; follows = q .1 .1 .0; links = q .1 .1 .1 })
-    (λ g. (g .link-room, (g .param-room, (g .follows, g .links))))
+    map-dec
+    (λ q. record { link-room = q .0; param-room = q .1 .0; follows = q .1 .1 .0; links = q .1 .1 .1 .0; codes = q .1 .1 .1 .1 })
+    (λ g. (g .link-room, (g .param-room, (g .follows, (g .links, g .codes)))))
     (Dec·and (decLe (t .linkCount) (linkRoom (t .linkSlots)))
     (Dec·and (decLe (t .paramCount) (paramRoom (t .paramSlots)))
-    (Dec·and (follows? (t .linkSlots) 0 (t .linkCount) 0 (t .paramCount)) (each? (link? extra (t .text)) (linksOf t)))))
+    (Dec·and (follows? (t .linkSlots) 0 (t .linkCount) 0 (t .paramCount))
+    (Dec·and (each? (link? extra (t .text)) (linksOf t))
+    (below? (λ j. ℕ-discrete (codeAt (t .paramSlots) j) (codeOf (nameOf (t .text) (paramAt (t .paramSlots) j)))) (t .paramCount))))))

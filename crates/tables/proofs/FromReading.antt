@@ -42,7 +42,7 @@ use Rattle.tables.specs.Good.{
 }
 use Rattle.tables.specs.Laws.{ReadGood}
 use Rattle.tables.proofs.Texts.{run-le, inside-le, target-le, wider-run, wider-inside}
-use Rattle.tables.proofs.Filled.{filled-links, filled-follows, link-records-length, param-records-length}
+use Rattle.tables.proofs.Filled.{filled-links, filled-follows, filled-codes, link-records-length, param-records-length}
 
 module _ (extra : Extra) (s : List ℕ) where
   -- ---- each parameter that a derivation gives is good
@@ -154,10 +154,11 @@ read-good extra h K X Y r =
       good =
           record {
             link-room = omega (arith, length-append (linkRecords 0 K) X, link-records-length 0 K);
-            param-room = omega (arith, length-append (paramRecords K) Y, param-records-length K);
+            param-room = omega (arith, length-append (paramRecords h K) Y, param-records-length h K);
             follows = filled-follows K X;
             links =
-                rw (filled-links K X Y, r .kept) (items-good extra h (r .derived .items));
+                rw (filled-links h K X Y, r .kept) (items-good extra h (r .derived .items));
+            codes = filled-codes h K Y;
           };
-      same-links = filled-links K X Y;
+      same-links = filled-links h K X Y;
     }

@@ -36,5 +36,6 @@ good-alike Rfc8288 t g =
       param-room = g .param-room;
       follows = g .follows;
       links = each-map (link-alike (further Rfc5988) (t .text)) (g .links);
+      codes = g .codes;
     }
 good-alike Rfc5988 t g = g

@@ -2,13 +2,18 @@
 use Prim.Native.Nat.{ℕ, zero, suc, _+_, _-_, _≤_, _<_}
 use native.Mathlib.Nat.{le-of-suc-le-suc}
 use native.Mathlib.Omega.{arith}
-use mathlib.Core.Path.{_≡_, subst}
+use mathlib.Core.Path.{_≡_, refl, subst}
+use mathlib.Core.Bool.{Bool, true, false}
 use mathlib.Core.List.{List, _∷_}
+use mathlib.Core.Option.{some}
+use Rattle.octets.specs.Fold.{same}
 use Rattle.grammar.specs.Link.{Link, Param}
 use Rattle.grammar.specs.Grammar.{Extra}
+use Rattle.grammar.specs.Kept.{nameOf}
 use Rattle.grammar.specs.Records.{linkRoom, paramRoom}
 use Rattle.tables.specs.Table.{Table, firstOf, countOf, paramAt, paramsFrom, linkAt, linksFrom}
-use Rattle.tables.specs.Good.{Each, each-more, Follows, GoodParam, GoodLink, Good}
+use Rattle.tables.specs.Good.{Each, each-none, each-more, Follows, Agrees, GoodParam, GoodLink, Good}
+use Rattle.tables.specs.Relation.{named}
 
 -- ---- every record of a run of records
 
@@ -49,6 +54,19 @@ follows-end L i (suc n) at m (suc j) f l =
     subst (λ (k : ℕ). firstOf L k + countOf L k ≤ m) e
     (follows-end L (suc i) n (at + countOf L i) m j (f .1) (le-of-suc-le-suc l))
 
+-- ---- what each parameter is, the first of a name is
+
+pub named-each : {Q : Param → Type 0} (s n : List ℕ) {ps : List Param} {p : Param} → Each Q ps → named s n ps ≡ some p → Q p
+named-each s n each-none e = let z : _≡_ {A = ℕ} 0 1 = cc in absurd (omega arith)
+named-each {Q} s n {p = p} (each-more {x} {xs} q r) e = go (same (nameOf s x) n) refl (named-each s n r)
+  where
+    go : (b : Bool) → same (nameOf s x) n ≡ b → (named s n xs ≡ some p → Q p) → Q p
+    go true h later =
+        let here : some x ≡ some p = rw (h, named) at e in
+        let first : x ≡ p = cc in
+        subst Q first q
+    go false h later = later (rw (h, named) at e)
+
 -- ---- link number i of a good table, and its parameters: by the index within the link, or by the number p in the table
 
 module _ {extra : Extra} {t : Table} (g : Good extra t) {i : ℕ} (l : i < t .linkCount) where
@@ -70,6 +88,9 @@ module _ {extra : Extra} {t : Table} (g : Good extra t) {i : ℕ} (l : i < t .li
 
   pub params-slots : firstOf (t .linkSlots) i + countOf (t .linkSlots) i ≤ paramRoom (t .paramSlots)
   params-slots = omega (arith, g .param-room, params-inside)
+
+  pub codes-agree : (j : ℕ) → j < countOf (t .linkSlots) i → Agrees (t .text) (t .paramSlots) (firstOf (t .linkSlots) i + j)
+  codes-agree j h = g .codes (firstOf (t .linkSlots) i + j) (omega (arith, params-inside))
 
   pub good-param : {j : ℕ} → j < countOf (t .linkSlots) i → GoodParam extra (t .text) (paramAt (t .paramSlots) (firstOf (t .linkSlots) i + j))
   good-param {j} h =

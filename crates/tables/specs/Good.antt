@@ -1,15 +1,15 @@
 -- A good table in an edition of the grammar, clause by clause. Whoever made it, spans may cross or stand in any order, and nothing is
 -- asked of the octets round a span.
-use Prim.Native.Nat.{ℕ, zero, suc, _+_, _≤_}
+use Prim.Native.Nat.{ℕ, zero, suc, _+_, _≤_, _<_}
 use mathlib.Core.Path.{_≡_}
 use mathlib.Core.Bool.{Bool, true, _&&_, not}
 use mathlib.Core.List.{List, [], _∷_}
 use lib.ListN.{length}
 use Rattle.grammar.specs.Link.{Link, Param}
 use Rattle.grammar.specs.Grammar.{Extra, Token, Inside, Target, Wider}
-use Rattle.grammar.specs.Kept.{nameOf, among, isOnce}
+use Rattle.grammar.specs.Kept.{nameOf, among, codeOf, isOnce}
 use Rattle.grammar.specs.Records.{linkRoom, paramRoom}
-use Rattle.tables.specs.Table.{Table, firstOf, countOf, linksOf}
+use Rattle.tables.specs.Table.{Table, paramAt, codeAt, firstOf, countOf, linksOf}
 
 -- every element of a list
 pub data Each {A : Type 0} (P : A → Type 0) : List A → Type 0 where
@@ -28,6 +28,10 @@ abbrev pub onceEach : List ℕ → List (List ℕ) → List Param → Bool
 onceEach s earlier [] = true
 onceEach s earlier (p ∷ ps) =
     not (isOnce (nameOf s p) && among earlier (nameOf s p)) && onceEach s (nameOf s p ∷ earlier) ps
+
+-- the code that parameter record number j has is that of its name
+abbrev pub Agrees : List ℕ → List ℕ → ℕ → Type 0
+Agrees s P j = codeAt P j ≡ codeOf (nameOf s (paramAt P j))
 
 module _ (s : List ℕ) where
   -- a span of the text: it ends no earlier than it starts, and no later than the text
@@ -58,9 +62,10 @@ module _ (extra : Extra) (s : List ℕ) where
     pub params : Each GoodParam (l .params)
     pub once : onceEach s [] (l .params) ≡ true
 
--- the counts fit the rooms, the links' parameters follow one another, and each link is good
+-- the counts fit the rooms, the links' parameters follow one another, each link is good, and each parameter's code agrees with its name
 pub record Good (extra : Extra) (t : Table) : Type 0 where
   pub link-room : t .linkCount ≤ linkRoom (t .linkSlots)
   pub param-room : t .paramCount ≤ paramRoom (t .paramSlots)
   pub follows : Follows (t .linkSlots) 0 (t .linkCount) 0 (t .paramCount)
   pub links : Each (GoodLink extra (t .text)) (linksOf t)
+  pub codes : (j : ℕ) → j < t .paramCount → Agrees (t .text) (t .paramSlots) j

@@ -59,7 +59,7 @@ filledTable h K X Y =
     record {
       text = h;
       linkSlots = linkRecords 0 K ++ X;
-      paramSlots = paramRecords K ++ Y;
+      paramSlots = paramRecords h K ++ Y;
       linkCount = length K;
       paramCount = countParams K;
     }

@@ -18,7 +18,7 @@ abbrev pub tableOf : List ℕ → List ℕ → List ℕ → ℕ → ℕ → Tabl
 tableOf text links params n m =
     record { text = text; linkSlots = links; paramSlots = params; linkCount = n; paramCount = m }
 
--- parameter record number j
+-- parameter record number j, as the parameter that it records
 abbrev pub paramAt : List ℕ → ℕ → Param
 paramAt P j =
     record {
@@ -28,6 +28,10 @@ paramAt P j =
       valueTo = getD P (paramWidth * j + 3) 0;
       form = getD P (paramWidth * j + 4) 0;
     }
+
+-- its last number: the code that it has for its name
+abbrev pub codeAt : List ℕ → ℕ → ℕ
+codeAt P j = getD P (paramWidth * j + 5) 0
 
 -- n parameter records from number j on
 abbrev pub paramsFrom : List ℕ → ℕ → ℕ → List Param

@@ -86,7 +86,7 @@ fn list_length(n: usize)
 
 // A header of two links and three parameters, in as many slots.
 fn list_room(link_slots: usize, param_slots: usize)
-    requires { ⌜ («link_slots» ≤ 11) × («param_slots» ≤ 19) ⌝ }
+    requires { ⌜ («link_slots» ≤ 11) × («param_slots» ≤ 23) ⌝ }
 {
     io::write_all(1, b"# slots ");
     io::print_decimal(1, link_slots as u64);
@@ -94,7 +94,7 @@ fn list_room(link_slots: usize, param_slots: usize)
     io::print_decimal(1, param_slots as u64);
     io::write_all(1, b"\n");
     let mut links = [0usize; 11];
-    let mut params = [0usize; 19];
+    let mut params = [0usize; 23];
     listing::list(
         RFC8288,
         b"<a>;x;y,<b>;z",
@@ -110,10 +110,10 @@ fn main() {
     list_length(LIMIT - 1);
     list_length(LIMIT);
     list_length(LIMIT + 1);
-    list_room(8, 15);
-    list_room(11, 19);
-    list_room(7, 15);
-    list_room(8, 14);
-    list_room(7, 14);
+    list_room(8, 18);
+    list_room(11, 23);
+    list_room(7, 18);
+    list_room(8, 17);
+    list_room(7, 17);
     list_room(0, 0);
 }

@@ -7,6 +7,7 @@ use mathlib.Core.Logic.{⊎-elim}
 use mathlib.Core.Bool.{Bool, true, false, not, true≢false, false≢true}
 use mathlib.Core.List.{List, [], _∷_}
 use borrow.Author.Tests.{not-true, not-false}
+use Rattle.octets.specs.Text.{octets}
 use Rattle.octets.specs.Editions.{further}
 use Rattle.octets.specs.declared.editions.Edition.the-variants.{Rfc5988}
 use Rattle.tables.specs.Table.{Table}
@@ -14,26 +15,27 @@ use Rattle.tables.specs.Relation.{runs, runsOf, relations}
 use Rattle.outcomes.specs.Write.{relationsAt}
 use Rattle.records.specs.Slots.{IsLink, toLink, toParam}
 use Rattle.records.specs.declared.LinkRecord.{LinkRecord}
-use Rattle.records.specs.declared.ParamRecord.{ParamRecord}
+use Rattle.records.specs.declared.ParamParts.{ParamParts}
 use Rattle.values.specs.Rest.{rest}
 use Rattle.values.proofs.Values.{value-meant}
 use Rattle.runs.specs.Runs.{isNone}
-use Rattle.named.specs.First.{Listed, FirstNamed}
+use Rattle.named.specs.First.{Listed, FirstCoded}
 use Rattle.named.specs.declared.Named.the-variants.{Found, Absent}
-use Rattle.named.proofs.ByName.{by-rel, coded-each}
+use Rattle.tables.proofs.InGood.{named-each}
+use Rattle.named.proofs.ByName.{by-rel}
 use Rattle.tables.specs.Good.{InText, GoodParam}
 use Rattle.writer.specs.Related.{TellsRelated}
 
 -- ---- a link by its record, whose first `rel` was looked for
 
-module _ (s P : List ℕ) (l : LinkRecord) where
-  pub no-rel : FirstNamed s P l 1 Absent → false ≡ not (isNone (relations s (toLink P l)))
+module _ (s P : List ℕ) (l : LinkRecord) (h : Listed s P l) where
+  pub no-rel : FirstCoded P l 1 Absent → false ≡ not (isNone (relations s (toLink P l)))
   unfolding relations
-  no-rel e = sym (ap (λ o. not (isNone (runsOf s o))) (by-rel s ((toLink P l) .params) ∙ e))
+  no-rel e = sym (ap (λ o. not (isNone (runsOf s o))) (by-rel s P h ∙ e))
 
-  module _ {p : ParamRecord} (h : Listed s P l) (e : FirstNamed s P l 1 (Found p)) where
+  module _ {p : ParamParts} (e : FirstCoded P l 1 (Found p)) where
     rel-good : GoodParam (further Rfc5988) s (toParam p)
-    rel-good = coded-each s 1 (h .params) e
+    rel-good = named-each s (octets "rel") (h .params) (by-rel s P h ∙ e)
 
     pub rel-span : InText s (p .value .from .0) (p .value .to .0)
     rel-span = rel-good .value-span
@@ -45,7 +47,7 @@ module _ (s P : List ℕ) (l : LinkRecord) where
     at-rel q =
         q
         ∙ sym
-        (ap (λ o. not (isNone (runsOf s o))) (by-rel s ((toLink P l) .params) ∙ e)
+        (ap (λ o. not (isNone (runsOf s o))) (by-rel s P h ∙ e)
         ∙ ap (λ v. not (isNone (runs v))) (value-meant rel-good))
 
 -- ---- over the links

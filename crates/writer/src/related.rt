@@ -22,7 +22,7 @@ fn is_related(text: &[u8], params: &[usize], l: LinkRecord) -> bool
     requires { ⌜ Listed (now text) (now params) l ⌝ }
     ensures { λ r. ⌜ r ≡ not (isNone (relations (now (text .entry)) (toLink (now (params .entry)) l))) ⌝ }
 {
-    let rel = first_of(text, params, l, REL);
+    let rel = first_of(params, l, REL);
     match rel {
         Named::Found(p) => has_runs(text, p.value),
         Named::Absent => false,

@@ -11,7 +11,7 @@ link-at-requires c κs = link-slots (c .before .before .before .pre .0 .good) (c
 first-of-requires : tie.Need-first-of-requires
 first-of-requires c κs =
     let b1 = c .before .before .before .before in
-    listed-here (b1 .pre .0) (b1 .pre .1) (c .link-at .ensures)
+    listed-here (b1 .pre .0) (b1 .pre .1) (c .link-at .ensures) .room
 
 enum-known-anchor : tie.Need-enum-known-anchor
 enum-known-anchor c = search needs

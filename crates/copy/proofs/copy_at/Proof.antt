@@ -29,8 +29,8 @@ plus-requires c κs =
       start .good .1 .1 .0 .0,
     )
 
-param-at-requires : tie.Need-param-at-requires
-param-at-requires c κs =
+parts-at-requires : tie.Need-parts-at-requires
+parts-at-requires c κs =
     let link = c .before .before .before in
     let start = link .before .before .before .before .before .before .before .before in
     rw (c .plus .ensures)
@@ -43,7 +43,7 @@ meaning-len-requires c κs =
     let start = link .before .before .before .before .before .before .before .before in
     let w =
     at-index (start .pre) (link .before .if1 .left) (link .link-at .ensures) (found .before .before .if2 .left)
-    (found .before .plus .ensures) (found .param-at .ensures)
+    (found .before .plus .ensures) (found .parts-at .ensures)
     in
     value-inside w
 
@@ -54,7 +54,7 @@ returns-3 c =
     let start = link .before .before .before .before .before .before .before .before in
     let w =
     at-index (start .pre) (link .before .if1 .left) (link .link-at .ensures) (found .before .before .if2 .left)
-    (found .before .plus .ensures) (found .param-at .ensures)
+    (found .before .plus .ensures) (found .parts-at .ensures)
     in
     short-buffer w (start .args .out .now) (c .before .meaning-len .ensures) (c .if3 .taken)
 
@@ -68,7 +68,7 @@ copy-meaning-requires c κs =
     let start = link .before .before .before .before .before .before .before .before in
     let w =
     at-index (start .pre) (link .before .if1 .left) (link .link-at .ensures) (found .before .before .if2 .left)
-    (found .before .plus .ensures) (found .param-at .ensures)
+    (found .before .plus .ensures) (found .parts-at .ensures)
     in
     (value-inside w, omega (arith, c .before .before .before .meaning-len .ensures, c .before .before .if3 .left, c .start .ensures))
 
@@ -82,7 +82,7 @@ returns-4 c =
     let start = link .before .before .before .before .before .before .before .before in
     let w =
     at-index (start .pre) (link .before .if1 .left) (link .link-at .ensures) (found .before .before .if2 .left)
-    (found .before .plus .ensures) (found .param-at .ensures)
+    (found .before .plus .ensures) (found .parts-at .ensures)
     in
     all-copied w (c .before .before .before .before .before .before .meaning-len .ensures) (c .before .before .before .before .before .if3 .left)
     (c .before .before .before .start .ensures) (c .before .before .copy-meaning .ensures)
@@ -95,7 +95,7 @@ copy-at-spec =
     link-at-requires
     returns-2
     plus-requires
-    param-at-requires
+    parts-at-requires
     meaning-len-requires
     returns-3
     start-requires

@@ -22,44 +22,44 @@ loop-holds c =
     let start = c .before .before in
     record { run = start .pre .0; short = start .pre .1; whole = refl }
 
-param-at-requires : tie.Need-param-at-requires Inv-loop μ-loop
-param-at-requires c κs = omega (arith, c .before .before .before .before .loop .inv .run .room, c .before .if1 .taken)
+parts-at-requires : tie.Need-parts-at-requires Inv-loop μ-loop
+parts-at-requires c κs = omega (arith, c .before .before .before .before .loop .inv .run .room, c .before .if1 .taken)
 
 len-requires : tie.Need-len-requires Inv-loop μ-loop
 len-requires c κs =
     let loop′ = c .before .before .before .before .before .loop in
-    good-here (loop′ .inv) (c .before .before .if1 .taken) (c .param-at .ensures) .name-span .ordered
+    good-here (loop′ .inv) (c .before .before .if1 .taken) (c .parts-at .ensures) .name-span .ordered
 
 value-len-requires : tie.Need-value-len-requires Inv-loop μ-loop
 value-len-requires c κs =
     let loop′ = c .before .before .before .before .before .before .loop in
     let if1′ = c .before .before .before .if1 in
-    (good-here (loop′ .inv) (if1′ .taken) (c .before .param-at .ensures), loop′ .inv .short)
+    (good-here (loop′ .inv) (if1′ .taken) (c .before .parts-at .ensures), loop′ .inv .short)
 
 add-n : tie.Need-add-n Inv-loop μ-loop
 add-n c =
     let loop′ = c .before .before .before .before .before .before .before .loop in
     let if1′ = c .before .before .before .before .if1 in
-    let param-at′ = c .before .before .param-at in
+    let parts-at′ = c .before .before .parts-at in
     let len′ = c .before .len in
-    omega (arith, added (loop′ .inv) (if1′ .taken) (param-at′ .ensures) (len′ .ensures) (c .value-len .ensures))
+    omega (arith, added (loop′ .inv) (if1′ .taken) (parts-at′ .ensures) (len′ .ensures) (c .value-len .ensures))
 
 add-n-2 : tie.Need-add-n-2 Inv-loop μ-loop
 add-n-2 c =
     let loop′ = c .before .before .before .before .before .before .before .loop in
     let if1′ = c .before .before .before .before .if1 in
-    let param-at′ = c .before .before .param-at in
+    let parts-at′ = c .before .before .parts-at in
     let len′ = c .before .len in
-    omega (arith, added (loop′ .inv) (if1′ .taken) (param-at′ .ensures) (len′ .ensures) (c .value-len .ensures))
+    omega (arith, added (loop′ .inv) (if1′ .taken) (parts-at′ .ensures) (len′ .ensures) (c .value-len .ensures))
 
 add-n-3 : tie.Need-add-n-3 Inv-loop μ-loop
 add-n-3 c =
     let loop′ = c .before .before .before .before .before .before .before .loop in
     let if1′ = c .before .before .before .before .if1 in
-    let param-at′ = c .before .before .param-at in
+    let parts-at′ = c .before .before .parts-at in
     let len′ = c .before .len in
     let if2′ = c .before .before .before .if2 in
-    let few = added (loop′ .inv) (if1′ .taken) (param-at′ .ensures) (len′ .ensures) (c .value-len .ensures) in
+    let few = added (loop′ .inv) (if1′ .taken) (parts-at′ .ensures) (len′ .ensures) (c .value-len .ensures) in
     omega (arith, few, leb-true (loop′ .n) limit (if2′ .taken))
 
 next-requires : tie.Need-next-requires Inv-loop μ-loop
@@ -75,9 +75,9 @@ loop-again : tie.Need-loop-again Inv-loop μ-loop
 loop-again c =
     let loop′ = c .before .before .before .before .before .before .before .before .loop in
     let if1′ = c .before .before .before .before .before .if1 in
-    let param-at′ = c .before .before .before .param-at in
+    let parts-at′ = c .before .before .before .parts-at in
     rw (c .next .ensures)
-    (measure-more (loop′ .inv) (if1′ .taken) (param-at′ .ensures) (c .before .before .len .ensures) (c .before .value-len .ensures))
+    (measure-more (loop′ .inv) (if1′ .taken) (parts-at′ .ensures) (c .before .before .len .ensures) (c .before .value-len .ensures))
 
 returns : tie.Need-returns Inv-loop μ-loop
 returns c =
@@ -94,7 +94,7 @@ params-len-spec =
     Inv-loop
     μ-loop
     loop-holds
-    param-at-requires
+    parts-at-requires
     len-requires
     value-len-requires
     add-n

@@ -26,20 +26,20 @@ loop-holds c =
           (start .pre .0 .ordered) (start .pre .1),
     )
 
-param-at-requires : tie.Need-param-at-requires Inv-loop μ-loop
-param-at-requires c κs =
+parts-at-requires : tie.Need-parts-at-requires Inv-loop μ-loop
+parts-at-requires c κs =
     let start = c .before .before .before .before .before .before .before in
     in-room (start .pre .0) (c .before .before .before .loop .inv .0) (c .if1 .taken)
 
 put-param-requires : tie.Need-put-param-requires Inv-loop μ-loop
 put-param-requires c κs =
     let start = c .before .before .before .before .before .before .before .before .before in
-    let param-at′ = c .before .param-at in
+    let parts-at′ = c .before .parts-at in
     let if1′ = c .before .before .if1 in
     let loop′ = c .before .before .before .before .before .loop in
-    let form = paramForm (start .args .text .now) (toParam (param-at′ .result)) in
-    let next-one = params-next (start .args .text .now) (start .args .params .now) (if1′ .taken) (param-at′ .ensures) in (
-      good-next (start .pre .0) (loop′ .inv .0) (if1′ .taken) (param-at′ .ensures),
+    let form = paramForm (start .args .text .now) (toParam (parts-at′ .result)) in
+    let next-one = params-next (start .args .text .now) (start .args .params .now) (if1′ .taken) (parts-at′ .ensures) in (
+      good-next (start .pre .0) (loop′ .inv .0) (if1′ .taken) (parts-at′ .ensures),
       slots (loop′ .inv .1) form (loop′ .p .0) next-one,
     )
 
@@ -57,12 +57,12 @@ loop-less c =
 loop-again : tie.Need-loop-again Inv-loop μ-loop
 loop-again c =
     let start = c .before .before .before .before .before .before .before .before .before .before .before .before .before in
-    let param-at′ = c .before .before .before .before .before .param-at in
+    let parts-at′ = c .before .before .before .before .before .parts-at in
     let if1′ = c .before .before .before .before .before .before .if1 in
     let loop′ = c .before .before .before .before .before .before .before .before .before .loop in
     let put-param′ = c .before .before .before .put-param in
-    let form = paramForm (start .args .text .now) (toParam (param-at′ .result)) in
-    let next-one = params-next (start .args .text .now) (start .args .params .now) (if1′ .taken) (param-at′ .ensures) in (
+    let form = paramForm (start .args .text .now) (toParam (parts-at′ .result)) in
+    let next-one = params-next (start .args .text .now) (start .args .params .now) (if1′ .taken) (parts-at′ .ensures) in (
       omega (arith, loop′ .inv .0, c .next .ensures),
       rw (c .next .ensures) (steps (loop′ .inv .1) form (loop′ .p .0) next-one (if1′ .taken) (put-param′ .ensures)),
     )
@@ -83,7 +83,7 @@ put-params-spec =
     Inv-loop
     μ-loop
     loop-holds
-    param-at-requires
+    parts-at-requires
     put-param-requires
     next-requires
     loop-less

@@ -1,6 +1,6 @@
 -- The stores are the record's numbers, one behind another.
 use native.Mathlib.Omega.{arith}
-use native.Mathlib.Numerals.{add-one, add-two, add-three, add-four}
+use native.Mathlib.Numerals.{add-one, add-two, add-three, add-four, add-five}
 use mathlib.Core.Path.{refl}
 use lib.ListN.{length-set}
 use borrow.Author.Needs.{needs}
@@ -52,11 +52,20 @@ mul-slots-5 c = search needs
 slice-write-slots-5 : tie.Need-slice-write-slots-5
 slice-write-slots-5 c = simp length-set (omega arith)
 
+add-slots-5 : tie.Need-add-slots-5
+add-slots-5 c = search needs
+
+mul-slots-6 : tie.Need-mul-slots-6
+mul-slots-6 c = search needs
+
+slice-write-slots-6 : tie.Need-slice-write-slots-6
+slice-write-slots-6 c = simp length-set (omega arith)
+
 same-length : tie.Need-same-length
 same-length c = search needs
 
 returns : tie.Need-returns
-returns c = rw (add-one, add-two, add-three, add-four) refl
+returns c = rw (add-one, add-two, add-three, add-four, add-five) refl
 
 pub put-param-spec : {M : Type 1} → statement M
 put-param-spec =
@@ -77,5 +86,8 @@ put-param-spec =
     add-slots-4
     mul-slots-5
     slice-write-slots-5
+    add-slots-5
+    mul-slots-6
+    slice-write-slots-6
     same-length
     returns)

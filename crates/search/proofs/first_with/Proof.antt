@@ -5,13 +5,12 @@ use native.Mathlib.Omega.{arith}
 use mathlib.Core.Path.{_≡_}
 use mathlib.Core.Bool.{false}
 use borrow.Author.Needs.{needs}
-use Rattle.grammar.specs.Kept.{nameOf}
 use Rattle.tables.specs.Table.{tableOf}
 use Rattle.tables.proofs.InGood.{link-slots, params-slots}
 use Rattle.outcomes.specs.Search.{has, no-link, found}
-use Rattle.named.proofs.Looking.{in-room, good-here}
+use Rattle.named.proofs.Looking.{in-room}
 use Rattle.search.proofs.Searching.{AmongParams, AmongRuns, first-param, next-param, none-related, unrelated}
-use Rattle.search.proofs.Searching.{first-run, next-one, matched, one-more}
+use Rattle.search.proofs.Searching.{good-here, first-run, next-one, matched, one-more}
 use Rattle.search.proofs.first_with.Statement.{statement}
 use Rattle.search.proofs.first_with.Tie as tie
 
@@ -64,24 +63,24 @@ loop-holds c =
     (c .plus .ensures)
     (first-param (start .args .relation .now) (start .pre) (b1 .if1 .left) (c .before .before .link-at .ensures))
 
-param-at-requires : tie.Need-param-at-requires Inv-loop2 μ-loop2 Inv-loop μ-loop Inv-search μ-search
-param-at-requires c κs = in-room (c .before .before .before .loop .inv .looking) (c .if2 .taken)
+code-at-requires : tie.Need-code-at-requires Inv-loop2 μ-loop2 Inv-loop μ-loop Inv-search μ-search
+code-at-requires c κs = in-room (c .before .before .before .loop .inv .looking) (c .if2 .taken)
 
-code-requires : tie.Need-code-requires Inv-loop2 μ-loop2 Inv-loop μ-loop Inv-search μ-search
-code-requires c κs =
-    good-here (c .before .before .before .before .loop .inv .looking) (c .before .if2 .taken) (c .param-at .ensures) .name-span
+parts-at-requires : tie.Need-parts-at-requires Inv-loop2 μ-loop2 Inv-loop μ-loop Inv-search μ-search
+parts-at-requires c κs =
+    let b1 = c .before .before in
+    in-room (b1 .before .before .before .loop .inv .looking) (b1 .if2 .taken)
 
 next-run-requires : tie.Need-next-run-requires Inv-loop2 μ-loop2 Inv-loop μ-loop Inv-search μ-search
 next-run-requires c κs =
-    good-here (c .before .before .before .before .before .before .before .loop .inv .looking)
-    (c .before .before .before .before .if2 .taken) (c .before .before .before .param-at .ensures) .value-span
+    let b1 = c .before .before .before .before .before in
+    good-here (b1 .before .before .before .loop .inv) (b1 .if2 .taken) (c .before .before .parts-at .ensures) .value-span
 
 loop2-holds : tie.Need-loop2-holds Inv-loop2 μ-loop2 Inv-loop μ-loop Inv-search μ-search
-unfolding nameOf
 loop2-holds c =
-    let asked = c .before .before .before in first-run (asked .before .before .before .before .before .loop .inv)
-    (asked .before .before .if2 .taken) (asked .before .param-at .ensures) (asked .code .ensures) (c .before .before .if3 .taken)
-    (c .next-run .ensures)
+    let b1 = c .before .before .before .before .before .before in
+    first-run (b1 .before .before .before .loop .inv) (b1 .if2 .taken) (c .before .before .before .before .before .code-at .ensures)
+    (c .before .before .before .parts-at .ensures) (c .before .before .before .before .if3 .taken) (c .next-run .ensures)
 
 match-run-requires : tie.Need-match-run-requires Inv-loop2 μ-loop2 Inv-loop μ-loop Inv-search μ-search
 match-run-requires c κs =
@@ -103,33 +102,28 @@ loop2-again c =
     next-one (loop2′ .inv) (c .before .before .match-run .ensures) (c .before .if5 .left) (c .next-run2 .ensures)
 
 loop-less : tie.Need-loop-less Inv-loop2 μ-loop2 Inv-loop μ-loop Inv-search μ-search
-loop-less c = omega (arith, c .before .before .before .before .before .before .before .before .before .if2 .taken)
+loop-less c = omega (arith, c .before .before .before .before .before .before .before .before .before .before .if2 .taken)
 
 loop-again : tie.Need-loop-again Inv-loop2 μ-loop2 Inv-loop μ-loop Inv-search μ-search
 loop-again c =
-    let loop′ = c .before .before .before .before .before .before .before .before .before .before .before .before .loop in
+    let loop′ = c .before .before .before .before .before .before .before .before .before .before .before .before .before .loop in
     unrelated (loop′ .inv) (c .before .before .before .loop2 .inv) (c .if4 .left)
 
 next-requires : tie.Need-next-requires Inv-loop2 μ-loop2 Inv-loop μ-loop Inv-search μ-search
 next-requires c κs =
-    let b1 = c .before .before .before in
+    let b1 = c .before .before in
     let b2 = b1 .before .before .before in
-    let b3 = b2 .before .before .before .before .before .before .before .before .before .before .before .before .before in
-    omega (
-      arith,
-      in-room (b2 .loop .inv .looking) (b1 .if2 .taken),
-      b3 .good .1 .1 .0 .0,
-    )
+    let start = b2 .before .before .before .before .before .before .before .before .before .before .before .before .before in
+    omega (arith, in-room (b2 .loop .inv .looking) (b1 .if2 .taken), start .good .1 .1 .0 .0)
 
 loop-less-2 : tie.Need-loop-less-2 Inv-loop2 μ-loop2 Inv-loop μ-loop Inv-search μ-search
-loop-less-2 c = omega (arith, c .next .ensures, c .before .before .before .before .if2 .taken)
+loop-less-2 c = omega (arith, c .next .ensures, c .before .before .before .if2 .taken)
 
 loop-again-2 : tie.Need-loop-again-2 Inv-loop2 μ-loop2 Inv-loop μ-loop Inv-search μ-search
-unfolding nameOf
 loop-again-2 c =
-    let asked = c .before .before in rw (c .next .ensures)
-    (next-param (asked .before .before .before .before .before .loop .inv) (asked .before .before .if2 .taken)
-    (asked .before .param-at .ensures) (asked .code .ensures) (c .before .if3 .left))
+    let b1 = c .before .before .before in
+    rw (c .next .ensures)
+    (next-param (b1 .before .before .before .loop .inv) (b1 .if2 .taken) (c .before .before .code-at .ensures) (c .before .if3 .left))
 
 next-requires-2 : tie.Need-next-requires-2 Inv-loop2 μ-loop2 Inv-loop μ-loop Inv-search μ-search
 next-requires-2 c κs =
@@ -154,7 +148,7 @@ returns c =
 returns-2 : tie.Need-returns-2 Inv-loop2 μ-loop2 Inv-loop μ-loop Inv-search μ-search
 returns-2 c =
     let b1 = c .before .before .before .before .before in
-    let b2 = b1 .before .before .before .before .before .before .before .before .before in
+    let b2 = b1 .before .before .before .before .before .before .before .before .before .before in
     let b3 = b2 .before .before .before .before .before .before .before in
     let loop′ = b2 .loop in let loop2′ = b1 .loop2 in let search′ = b3 .search in found (loop′ .inv .is-link)
     (matched (loop2′ .inv) (c .before .match-run .ensures) (c .if5 .taken)) (search′ .inv)
@@ -174,8 +168,8 @@ first-with-spec =
     link-at-requires
     plus-requires
     loop-holds
-    param-at-requires
-    code-requires
+    code-at-requires
+    parts-at-requires
     next-run-requires
     loop2-holds
     match-run-requires

@@ -20,17 +20,21 @@ returns c =
     also
     (λ g.
     record {
-      target-span = b .before .before .is-span .ensures .holds (b .before .if1 .taken);
-      target = b .is-part .ensures .holds (c .before .if2 .taken);
-      params = g .each;
-      once = g .once;
+      good =
+          record {
+            target-span = b .before .before .is-span .ensures .holds (b .before .if1 .taken);
+            target = b .is-part .ensures .holds (c .before .if2 .taken);
+            params = g .each;
+            once = g .once;
+          };
+      codes = g .codes;
     })
-    (λ g. record { each = g .params; once = g .once }) (c .are-good-params .ensures)
+    (λ g. record { each = g .good .params; once = g .good .once; codes = g .codes }) (c .are-good-params .ensures)
 
 returns-2 : tie.Need-returns-2
 returns-2 c =
-    ⊎-elim (λ w. not-so (λ g. w .1 .ensures .fails (w .2 .left) (g .target)))
-    (λ w. not-so (λ g. c .before .is-span .ensures .fails (w .left) (g .target-span))) (c .if1 .came)
+    ⊎-elim (λ w. not-so (λ g. w .1 .ensures .fails (w .2 .left) (g .good .target)))
+    (λ w. not-so (λ g. c .before .is-span .ensures .fails (w .left) (g .good .target-span))) (c .if1 .came)
 
 pub is-good-link-spec : {M : Type 1} → statement M
 is-good-link-spec =

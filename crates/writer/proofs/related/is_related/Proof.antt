@@ -5,7 +5,7 @@ use Rattle.writer.proofs.related.is_related.Statement.{statement}
 use Rattle.writer.proofs.related.is_related.Tie as tie
 
 first-of-requires : tie.Need-first-of-requires
-first-of-requires c κs = search needs
+first-of-requires c κs = c .before .before .pre .room
 
 enum-known-rel : tie.Need-enum-known-rel
 enum-known-rel c = search needs
@@ -28,7 +28,7 @@ returns c =
 returns-2 : tie.Need-returns-2
 returns-2 c =
     let start = c .before .before .before .before .before in
-    no-rel (start .args .text .now) (start .args .params .now) (start .args .l)
+    no-rel (start .args .text .now) (start .args .params .now) (start .args .l) (start .pre)
     (rw (c .enum-told .given .1) at (c .before .before .first-of .ensures))
 
 pub is-related-spec : {M : Type 1} → statement M
