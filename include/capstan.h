@@ -17,11 +17,12 @@
  * - No other thread writes to an argument, or reads one that is written to, while the call runs.
  *
  * Tables. A link record is CAPSTAN_LINK_SLOTS numbers: target start, target end, number of its first parameter, count of its
- * parameters. A parameter record is CAPSTAN_PARAM_SLOTS numbers: name start, name end, value start, value end, form. Places are
+ * parameters. A parameter record is CAPSTAN_PARAM_SLOTS numbers: name start, name end, value start, value end, form, code. Places are
  * octets of the text, counted from 0, and an end is one past the last octet. Form 0 is no value, whose places both are the name's end,
  * 1 a token, 2 a quoted string, whose span lies inside the quotes with its backslashes still there, and 3 a bare value that is no token.
- * The room is the count of slots divided by 4 or by 5, rounded down. No header has more than 2,731 links, nor more than 4,095
- * parameters.
+ * The code is what capstan_name_code answers of the name, so a parameter of a known name is found without looking at its octets. The
+ * room is the count of slots divided by CAPSTAN_LINK_SLOTS or by CAPSTAN_PARAM_SLOTS, rounded down. No header has more than 2,731 links,
+ * nor more than 4,095 parameters.
  *
  * Editions. In CAPSTAN_RFC8288 a bare value is a token; in CAPSTAN_RFC5988 it may also hold any of `( ) / : < = > ? @ [ ] { }`, and has
  * form 3 if it does. Nothing else differs: what the first edition accepts, the second reads to the same records. Functions over headers
@@ -36,9 +37,9 @@
  * They check all of it: tables of any other making are used if they are good, and refused with CAPSTAN_BAD_TABLE if they are not. A
  * table is good if the counts fit the rooms; the first link's parameters begin at number 0, each later link's where the former's end,
  * and the last ends at the count; every span lies in the text, start at most end; targets, names and values are what the edition's
- * grammar derives for them in the form recorded, 0, 1 or 2, in CAPSTAN_RFC5988 also 3; and no link has two parameters of one of the
- * names of codes 1 to 6, whose list stands below. Spans may overlap or stand in any order. A table that is good in CAPSTAN_RFC8288 is
- * good in CAPSTAN_RFC5988 too, and is answered for alike; one with a form 3 is good in CAPSTAN_RFC5988 alone.
+ * grammar derives for them in the form recorded, 0, 1 or 2, in CAPSTAN_RFC5988 also 3; every code is that of its name; and no link has
+ * two parameters of one of the names of codes 1 to 6, whose list stands below. Spans may overlap or stand in any order. A table that is
+ * good in CAPSTAN_RFC8288 is good in CAPSTAN_RFC5988 too, and is answered for alike; one with a form 3 is good in CAPSTAN_RFC5988 alone.
  */
 #ifndef CAPSTAN_H
 #define CAPSTAN_H
@@ -55,7 +56,7 @@ extern "C" {
 
 /* The numbers of one link record, and of one parameter record. */
 #define CAPSTAN_LINK_SLOTS 4
-#define CAPSTAN_PARAM_SLOTS 5
+#define CAPSTAN_PARAM_SLOTS 6
 
 /* The editions of the grammar. */
 enum {

@@ -5,9 +5,9 @@
 /// reads to the same records. What is written reads in both.
 ///
 /// ```
-/// use capstanbar::{read, read_in, Counts, Edition, Refusal};
+/// use capstanbar::{read, read_in, Counts, Edition, Refusal, LINK_SLOTS, PARAM_SLOTS};
 ///
-/// let (mut links, mut params) = ([0; 4], [0; 5]);
+/// let (mut links, mut params) = ([0; LINK_SLOTS], [0; PARAM_SLOTS]);
 /// let refused = read(b"<a>;rel=b/c", &mut links, &mut params);
 /// assert_eq!(refused, Err(Refusal::Malformed { place: 9 }));
 ///

@@ -8,9 +8,9 @@ use core::fmt;
 /// whole, and a feed is refused as soon as no well formed header begins with what was fed.
 ///
 /// ```
-/// use capstanbar::{Feeding, Refusal, LIMIT};
+/// use capstanbar::{Feeding, Refusal, LIMIT, LINK_SLOTS, PARAM_SLOTS};
 ///
-/// let (mut links, mut params) = ([0; 8], [0; 10]);
+/// let (mut links, mut params) = ([0; LINK_SLOTS], [0; 2 * PARAM_SLOTS]);
 /// let mut buffer = [0; LIMIT];
 /// let mut feeding = Feeding::new(&mut buffer);
 /// for part in [&b"</packs/8>; title=\"Harb"[..], b"", b"our, part 3\"; rel=ne", b"xt"] {
@@ -59,9 +59,10 @@ impl<'a> Feeding<'a> {
     /// A feeding as [`new`](Feeding::new) makes it, in that edition.
     ///
     /// ```
-    /// use capstanbar::{Edition, Feeding, Refusal, LIMIT};
+    /// use capstanbar::{Edition, Feeding, Refusal, LIMIT, LINK_SLOTS, PARAM_SLOTS};
     ///
-    /// let (mut buffer, mut links, mut params) = ([0; LIMIT], [0; 4], [0; 5]);
+    /// let (mut links, mut params) = ([0; LINK_SLOTS], [0; PARAM_SLOTS]);
+    /// let mut buffer = [0; LIMIT];
     /// let mut feeding = Feeding::new_in(Edition::Rfc5988, &mut buffer);
     /// feeding.feed(b"<a>;rel=http:/")?;
     /// feeding.feed(b"/example.net/foo")?;
@@ -134,22 +135,22 @@ impl<'a> Feeding<'a> {
     /// short is malformed at its end.
     ///
     /// ```
-    /// use capstanbar::{Counts, Feeding, Refusal, LIMIT};
+    /// use capstanbar::{Counts, Feeding, Refusal, LIMIT, LINK_SLOTS, PARAM_SLOTS};
     ///
-    /// let (mut links, mut params) = ([7; 4], [7; 5]);
+    /// let (mut links, mut params) = ([7; LINK_SLOTS], [7; PARAM_SLOTS]);
     /// let mut buffer = [0; LIMIT];
     /// let mut feeding = Feeding::new(&mut buffer);
     /// feeding.feed(b"<a>;re")?;
     /// feeding.feed(b"l=")?;
     /// let cut_short = Err(Refusal::Malformed { place: 8 });
     /// assert_eq!(feeding.finish(&mut links, &mut params), cut_short);
-    /// assert_eq!((links, params), ([7; 4], [7; 5]));
+    /// assert_eq!((links, params), ([7; LINK_SLOTS], [7; PARAM_SLOTS]));
     ///
     /// feeding.feed(b"next")?;
     /// for _ in 0..2 {
     ///     let counts = feeding.finish(&mut links, &mut params)?;
     ///     assert_eq!(counts, Counts { links: 1, params: 1 });
-    ///     assert_eq!((links, params), ([1, 2, 0, 1], [4, 7, 8, 12, 1]));
+    ///     assert_eq!((links, params), ([1, 2, 0, 1], [4, 7, 8, 12, 1, 1]));
     /// }
     /// # Ok::<(), Refusal>(())
     /// ```
@@ -163,9 +164,9 @@ impl<'a> Feeding<'a> {
     /// Refused as [`finish`](Feeding::finish) is.
     ///
     /// ```
-    /// use capstanbar::{Feeding, Refusal, LIMIT};
+    /// use capstanbar::{Feeding, Refusal, LIMIT, LINK_SLOTS, PARAM_SLOTS};
     ///
-    /// let (mut links, mut params) = ([0; 8], [0; 10]);
+    /// let (mut links, mut params) = ([0; 2 * LINK_SLOTS], [0; 2 * PARAM_SLOTS]);
     /// let mut buffer = [0; LIMIT];
     /// let mut feeding = Feeding::new(&mut buffer);
     /// feeding.feed(b"<a>; rel=next")?;
@@ -200,7 +201,7 @@ impl<'a> Feeding<'a> {
     /// Refused as [`finish`](Feeding::finish) is.
     ///
     /// ```
-    /// use capstanbar::{Feeding, Refusal, Table, LIMIT};
+    /// use capstanbar::{Feeding, Refusal, Table, LIMIT, LINK_SLOTS, PARAM_SLOTS};
     ///
     /// fn gather<'a>(
     ///     parts: &[&[u8]],
@@ -213,7 +214,8 @@ impl<'a> Feeding<'a> {
     ///     feeding.into_table(links, params)
     /// }
     ///
-    /// let (mut buffer, mut links, mut params) = ([0; LIMIT], [0; 4], [0; 5]);
+    /// let (mut links, mut params) = ([0; LINK_SLOTS], [0; PARAM_SLOTS]);
+    /// let mut buffer = [0; LIMIT];
     /// let table = gather(&[b"<a>;re", b"l=next"], &mut buffer, &mut links, &mut params)?;
     /// assert_eq!(table.search(b"next")?.target(), b"a");
     /// # Ok::<(), Refusal>(())

@@ -149,7 +149,7 @@ pub fn compare(a: &[u8], b: &[u8]) -> CompareAnswer {
 /// ```
 /// use capstanbar::ffi::{search, RawTable, SearchAnswer};
 ///
-/// let (links, params) = ([1, 2, 0, 1], [4, 7, 8, 12, 1]);
+/// let (links, params) = ([1, 2, 0, 1], [4, 7, 8, 12, 1, 1]);
 /// let text = b"<a>;rel=next";
 /// let table = RawTable { text, links: &links, params: &params, link_count: 1, param_count: 1 };
 /// assert_eq!(search(0, table, b"NEXT"), SearchAnswer { number: 0, link: 0 });
@@ -207,7 +207,7 @@ pub fn context(edition: usize, table: RawTable<'_>, base: &[u8], link: usize) ->
 /// ```
 /// use capstanbar::ffi::{value, RawTable};
 ///
-/// let (links, params) = ([0, 0, 0, 1], [0, 1, 2, 5, 2]);
+/// let (links, params) = ([0, 0, 0, 1], [0, 1, 2, 5, 2, 0]);
 /// let text = br#"t"a\b""#;
 /// let table = RawTable { text, links: &links, params: &params, link_count: 1, param_count: 1 };
 /// let mut out = *b"....";
@@ -245,7 +245,7 @@ pub fn value(
 /// ```
 /// use capstanbar::ffi::{write, RawTable};
 ///
-/// let (links, params) = ([0, 3, 0, 1], [0, 3, 0, 1, 2]);
+/// let (links, params) = ([0, 3, 0, 1], [0, 3, 0, 1, 2, 1]);
 /// let table = RawTable { text: b"Rel", links: &links, params: &params, link_count: 1, param_count: 1 };
 /// let mut out = *b"................";
 /// assert_eq!((write(0, table, &mut out).length, &out), (12, b"<Rel>; rel=R...."));

@@ -5,10 +5,10 @@
 //! it safe and pleasant to call. It allocates nothing and needs no `std`.
 //!
 //! ```
-//! use capstanbar::Table;
+//! use capstanbar::{Table, LINK_SLOTS, PARAM_SLOTS};
 //!
 //! let header = br#"</packs/7>; rel="prev", </packs/9>; rel="next"; title="Pack \"9\"""#;
-//! let (mut links, mut params) = ([0; 4 * 16], [0; 5 * 64]);
+//! let (mut links, mut params) = ([0; 16 * LINK_SLOTS], [0; 64 * PARAM_SLOTS]);
 //! let table = Table::read(header, &mut links, &mut params)?;
 //!
 //! let next = table.search(b"next")?;
@@ -32,9 +32,9 @@
 //! Parameters are found by a [`Name`] that the library knows, or by any octets:
 //!
 //! ```
-//! use capstanbar::{Name, Table};
+//! use capstanbar::{Name, Table, LINK_SLOTS, PARAM_SLOTS};
 //!
-//! let (mut links, mut params) = ([0; 4 * 16], [0; 5 * 64]);
+//! let (mut links, mut params) = ([0; 16 * LINK_SLOTS], [0; 64 * PARAM_SLOTS]);
 //! let header = b"</packs/9>; rel=next; HrefLang=en; hreflang=de; pack=9";
 //! let table = Table::read(header, &mut links, &mut params)?;
 //! let next = table.search(b"next")?;
@@ -49,9 +49,9 @@
 //! headers are read in that [`Edition`], which the table remembers; what it writes reads in both:
 //!
 //! ```
-//! use capstanbar::{Edition, Refusal, Table};
+//! use capstanbar::{Edition, Refusal, Table, LINK_SLOTS, PARAM_SLOTS};
 //!
-//! let (mut links, mut params) = ([0; 4 * 16], [0; 5 * 64]);
+//! let (mut links, mut params) = ([0; 16 * LINK_SLOTS], [0; 64 * PARAM_SLOTS]);
 //! let header = b"</packs/9>; rel=http://example.net/foo";
 //! let refused = Table::read(header, &mut links, &mut params);
 //! assert_eq!(refused.unwrap_err(), Refusal::Malformed { place: 20 });
@@ -60,7 +60,7 @@
 //! assert_eq!(table.search(b"http://example.net/foo")?.target(), b"/packs/9");
 //! let written = br#"</packs/9>; rel="http://example.net/foo""#;
 //! assert_eq!(table.write(&mut [0; 64])?, written);
-//! assert!(Table::read(written, &mut [0; 4], &mut [0; 5]).is_ok());
+//! assert!(Table::read(written, &mut [0; LINK_SLOTS], &mut [0; PARAM_SLOTS]).is_ok());
 //! # Ok::<(), Refusal>(())
 //! ```
 //!
@@ -76,9 +76,9 @@
 //! A header that arrives in parts is fed to a [`Feeding`] part by part, wherever it is cut:
 //!
 //! ```
-//! use capstanbar::{Feeding, LIMIT};
+//! use capstanbar::{Feeding, LIMIT, LINK_SLOTS, PARAM_SLOTS};
 //!
-//! let (mut links, mut params) = ([0; 4 * 16], [0; 5 * 64]);
+//! let (mut links, mut params) = ([0; 16 * LINK_SLOTS], [0; 64 * PARAM_SLOTS]);
 //! let mut buffer = [0; LIMIT];
 //! let mut feeding = Feeding::new(&mut buffer);
 //! feeding.feed(b"</packs/9>; rel=\"ne")?;
@@ -92,9 +92,10 @@
 //! wrong. A refusal leaves everything lent as it was.
 //!
 //! ```
-//! use capstanbar::{read, Refusal};
+//! use capstanbar::{read, Refusal, LINK_SLOTS, PARAM_SLOTS};
 //!
-//! let refusal = read(b"<a>;rel=next;", &mut [0; 4], &mut [0; 5]).unwrap_err();
+//! let (mut links, mut params) = ([0; LINK_SLOTS], [0; PARAM_SLOTS]);
+//! let refusal = read(b"<a>;rel=next;", &mut links, &mut params).unwrap_err();
 //! assert_eq!(refusal, Refusal::Malformed { place: 13 });
 //! assert_eq!(refusal.to_string(), "malformed at octet 13");
 //! ```

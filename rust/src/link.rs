@@ -4,7 +4,7 @@ use core::ops::Range;
 /// A link of a table.
 ///
 /// ```
-/// # let (mut links, mut params) = ([0; 8], [0; 10]);
+/// # let (mut links, mut params) = ([0; 8], [0; 64]);
 /// let table = capstanbar::Table::read(b"<a>;rel=next", &mut links, &mut params)?;
 /// let link = table.search(b"next")?;
 /// assert_eq!((link.number(), link.target()), (0, &b"a"[..]));
@@ -25,7 +25,7 @@ impl<'a> Link<'a> {
     /// Its number in the table.
     ///
     /// ```
-    /// # let (mut links, mut params) = ([0; 8], [0; 10]);
+    /// # let (mut links, mut params) = ([0; 8], [0; 64]);
     /// let table = capstanbar::Table::read(b"<a>, <b>", &mut links, &mut params)?;
     /// assert!(table.links().map(|link| link.number()).eq([0, 1]));
     /// # Ok::<(), capstanbar::Refusal>(())
@@ -37,7 +37,7 @@ impl<'a> Link<'a> {
     /// The octets of its target.
     ///
     /// ```
-    /// # let (mut links, mut params) = ([0; 8], [0; 10]);
+    /// # let (mut links, mut params) = ([0; 8], [0; 64]);
     /// let table = capstanbar::Table::read(b"<http://a/%7Eb>", &mut links, &mut params)?;
     /// assert_eq!(table.link(0).unwrap().target(), b"http://a/%7Eb");
     /// # Ok::<(), capstanbar::Refusal>(())
@@ -50,7 +50,7 @@ impl<'a> Link<'a> {
     /// Its parameters in order.
     ///
     /// ```
-    /// # let (mut links, mut params) = ([0; 8], [0; 15]);
+    /// # let (mut links, mut params) = ([0; 8], [0; 64]);
     /// let header = b"<a>;x, <b>;hreflang=en;hreflang=de";
     /// let table = capstanbar::Table::read(header, &mut links, &mut params)?;
     /// let values = table.link(1).unwrap().params().map(|param| param.raw_value());
@@ -68,7 +68,7 @@ impl<'a> Link<'a> {
     /// ```
     /// use capstanbar::Name;
     ///
-    /// # let (mut links, mut params) = ([0; 8], [0; 15]);
+    /// # let (mut links, mut params) = ([0; 8], [0; 64]);
     /// let table = capstanbar::Table::read(b"<a>;x=y;Type=t;title*=u", &mut links, &mut params)?;
     /// let link = table.link(0).unwrap();
     /// assert_eq!(link.find(Name::Type).unwrap().raw_value(), b"t");
@@ -86,7 +86,7 @@ impl<'a> Link<'a> {
     /// ```
     /// use capstanbar::Name;
     ///
-    /// # let (mut links, mut params) = ([0; 4], [0; 30]);
+    /// # let (mut links, mut params) = ([0; 4], [0; 64]);
     /// let header = b"<a>;HrefLang=en;rev=b;hreflang=de;REV=c;Type=d;type=e;x=f";
     /// let table = capstanbar::Table::read(header, &mut links, &mut params)?;
     /// let link = table.link(0).unwrap();
@@ -104,7 +104,7 @@ impl<'a> Link<'a> {
     /// Its context: what its `anchor` holds, as it is written, even if that is nothing; without one, the base.
     ///
     /// ```
-    /// # let (mut links, mut params) = ([0; 8], [0; 10]);
+    /// # let (mut links, mut params) = ([0; 8], [0; 64]);
     /// let header = b"<a>;anchor=x, <b>";
     /// let table = capstanbar::Table::read(header, &mut links, &mut params)?;
     /// let contexts = table.links().map(|link| link.context(b"base"));
@@ -124,7 +124,7 @@ impl<'a> Link<'a> {
 /// The links of a table in order.
 ///
 /// ```
-/// # let (mut links, mut params) = ([0; 8], [0; 10]);
+/// # let (mut links, mut params) = ([0; 8], [0; 64]);
 /// let table = capstanbar::Table::read(b"<a>, <b>", &mut links, &mut params)?;
 /// let mut links = table.links();
 /// assert_eq!(links.next().unwrap().target(), b"a");

@@ -50,7 +50,7 @@ names! {
     /// ```
     /// use capstanbar::Name;
     ///
-    /// # let (mut links, mut params) = ([0; 4], [0; 20]);
+    /// # let (mut links, mut params) = ([0; 4], [0; 64]);
     /// let header = b"<a>;HrefLang=en;hreflang=de;title*=b;Pack=9";
     /// let table = capstanbar::Table::read(header, &mut links, &mut params)?;
     /// let link = table.link(0).unwrap();
@@ -119,7 +119,7 @@ impl Name {
     /// ```
     /// use capstanbar::Name;
     ///
-    /// # let (mut links, mut params) = ([0; 4], [0; 15]);
+    /// # let (mut links, mut params) = ([0; 4], [0; 64]);
     /// let header = b"<a>;Type=b;type=c;rev=d;REV=e";
     /// let table = capstanbar::Table::read(header, &mut links, &mut params)?;
     /// let link = table.link(0).unwrap();
@@ -142,7 +142,7 @@ impl Name {
 /// ```
 /// use capstanbar::Name;
 ///
-/// # let (mut links, mut params) = ([0; 4], [0; 10]);
+/// # let (mut links, mut params) = ([0; 4], [0; 64]);
 /// let table = capstanbar::Table::read(b"<a>;rev=b;Pack=9", &mut links, &mut params)?;
 /// let link = table.link(0).unwrap();
 /// assert!(link.find(Name::Rev).is_some() && link.find(b"REV").is_some());

@@ -6,7 +6,7 @@ use core::ops::Range;
 /// ```
 /// use capstanbar::{Edition, Form, Table};
 ///
-/// # let (mut links, mut params) = ([0; 4], [0; 15]);
+/// # let (mut links, mut params) = ([0; 4], [0; 64]);
 /// let table = Table::read(br#"<a>;x;y=z;t="u""#, &mut links, &mut params)?;
 /// let forms = table.link(0).unwrap().params().map(|param| param.form());
 /// assert!(forms.eq([Form::NoValue, Form::Token, Form::Quoted]));
@@ -32,7 +32,7 @@ pub enum Form {
 /// A parameter of a link.
 ///
 /// ```
-/// # let (mut links, mut params) = ([0; 4], [0; 5]);
+/// # let (mut links, mut params) = ([0; 4], [0; 64]);
 /// let table = capstanbar::Table::read(br#"<a>;Title="\b""#, &mut links, &mut params)?;
 /// let param = table.link(0).unwrap().params().next().unwrap();
 /// assert_eq!(param.name(), b"Title");
@@ -52,7 +52,7 @@ impl<'a> Param<'a> {
     /// Its place within its link, from 0.
     ///
     /// ```
-    /// # let (mut links, mut params) = ([0; 8], [0; 10]);
+    /// # let (mut links, mut params) = ([0; 8], [0; 64]);
     /// let table = capstanbar::Table::read(b"<a>;x, <b>;y", &mut links, &mut params)?;
     /// assert_eq!(table.link(1).unwrap().find(b"y").unwrap().place(), 0);
     /// # Ok::<(), capstanbar::Refusal>(())
@@ -64,7 +64,7 @@ impl<'a> Param<'a> {
     /// Its number, counted through the whole table.
     ///
     /// ```
-    /// # let (mut links, mut params) = ([0; 8], [0; 10]);
+    /// # let (mut links, mut params) = ([0; 8], [0; 64]);
     /// let table = capstanbar::Table::read(b"<a>;x, <b>;y", &mut links, &mut params)?;
     /// assert_eq!(table.link(1).unwrap().find(b"y").unwrap().number(), 1);
     /// # Ok::<(), capstanbar::Refusal>(())
@@ -76,7 +76,7 @@ impl<'a> Param<'a> {
     /// The octets of its name as written.
     ///
     /// ```
-    /// # let (mut links, mut params) = ([0; 4], [0; 5]);
+    /// # let (mut links, mut params) = ([0; 4], [0; 64]);
     /// let table = capstanbar::Table::read(b"<a>;REL=x", &mut links, &mut params)?;
     /// assert_eq!(table.link(0).unwrap().find(b"rel").unwrap().name(), b"REL");
     /// # Ok::<(), capstanbar::Refusal>(())
@@ -91,7 +91,7 @@ impl<'a> Param<'a> {
     /// ```
     /// use capstanbar::Name;
     ///
-    /// # let (mut links, mut params) = ([0; 4], [0; 15]);
+    /// # let (mut links, mut params) = ([0; 4], [0; 64]);
     /// let table = capstanbar::Table::read(b"<a>;REL=x;title*=y;z", &mut links, &mut params)?;
     /// let known = table.link(0).unwrap().params().map(|param| param.known());
     /// assert!(known.eq([Some(Name::Rel), Some(Name::TitleStar), None]));
@@ -105,27 +105,27 @@ impl<'a> Param<'a> {
     /// still there; none without a value.
     ///
     /// ```
-    /// # let (mut links, mut params) = ([0; 4], [0; 5]);
+    /// # let (mut links, mut params) = ([0; 4], [0; 64]);
     /// let table = capstanbar::Table::read(br#"<a>;t="b\"c""#, &mut links, &mut params)?;
     /// assert_eq!(table.link(0).unwrap().find(b"t").unwrap().raw_value(), br#"b\"c"#);
     /// # Ok::<(), capstanbar::Refusal>(())
     /// ```
     pub fn raw_value(&self) -> &'a [u8] {
-        let [_, _, start, end, _] = self.table.param_record(self.number);
+        let [_, _, start, end, ..] = self.table.param_record(self.number);
         &self.table.text()[start..end]
     }
 
     /// How its value is written.
     ///
     /// ```
-    /// # let (mut links, mut params) = ([0; 4], [0; 5]);
+    /// # let (mut links, mut params) = ([0; 4], [0; 64]);
     /// let table = capstanbar::Table::read(b"<a>;crossorigin", &mut links, &mut params)?;
     /// let param = table.link(0).unwrap().find(b"crossorigin").unwrap();
     /// assert_eq!(param.form(), capstanbar::Form::NoValue);
     /// # Ok::<(), capstanbar::Refusal>(())
     /// ```
     pub fn form(&self) -> Form {
-        let [.., form] = self.table.param_record(self.number);
+        let [.., form, _] = self.table.param_record(self.number);
         match form {
             0 => Form::NoValue,
             1 => Form::Token,
@@ -141,7 +141,7 @@ impl<'a> Param<'a> {
     /// ```
     /// use capstanbar::Refusal;
     ///
-    /// # let (mut links, mut params) = ([0; 4], [0; 5]);
+    /// # let (mut links, mut params) = ([0; 4], [0; 64]);
     /// let table = capstanbar::Table::read(br#"<a>;t="b\"c""#, &mut links, &mut params)?;
     /// let param = table.link(0).unwrap().find(b"t").unwrap();
     /// assert_eq!(param.value(&mut [0; 3])?, br#"b"c"#);
@@ -156,7 +156,7 @@ impl<'a> Param<'a> {
 /// The parameters of a link in order.
 ///
 /// ```
-/// # let (mut links, mut params) = ([0; 4], [0; 10]);
+/// # let (mut links, mut params) = ([0; 4], [0; 64]);
 /// let table = capstanbar::Table::read(b"<a>;x;y", &mut links, &mut params)?;
 /// let mut params = table.link(0).unwrap().params();
 /// assert_eq!(params.next_back().unwrap().name(), b"y");
@@ -219,7 +219,7 @@ impl ExactSizeIterator for Params<'_> {}
 /// ```
 /// use capstanbar::Name;
 ///
-/// # let (mut links, mut params) = ([0; 4], [0; 15]);
+/// # let (mut links, mut params) = ([0; 4], [0; 64]);
 /// let header = b"<a>;hreflang=en;x;HREFLANG=de";
 /// let table = capstanbar::Table::read(header, &mut links, &mut params)?;
 /// let mut languages = table.link(0).unwrap().find_all(Name::Hreflang);

@@ -8,9 +8,9 @@ use crate::{read_in, Counts, Edition, Link, Links, Refusal, LINK_SLOTS, PARAM_SL
 /// nothing to refuse.
 ///
 /// ```
-/// use capstanbar::{Refusal, Table};
+/// use capstanbar::{Refusal, Table, LINK_SLOTS, PARAM_SLOTS};
 ///
-/// let (mut links, mut params) = ([0; 8], [0; 10]);
+/// let (mut links, mut params) = ([0; 2 * LINK_SLOTS], [0; 2 * PARAM_SLOTS]);
 /// let table = Table::read(b"<a>;rel=next, <b>;rel=prev", &mut links, &mut params)?;
 /// let targets: Vec<&[u8]> = table.links().map(|link| link.target()).collect();
 /// assert_eq!(targets, [b"a", b"b"]);
@@ -20,7 +20,7 @@ use crate::{read_in, Counts, Edition, Link, Links, Refusal, LINK_SLOTS, PARAM_SL
 /// While it lives its slots can't be changed:
 ///
 /// ```compile_fail,E0506
-/// let (mut links, mut params) = ([0; 4], [0; 5]);
+/// let (mut links, mut params) = ([0; capstanbar::LINK_SLOTS], []);
 /// let table = capstanbar::Table::read(b"<a>", &mut links, &mut params).unwrap();
 /// links[1] = 9;
 /// table.link(0);
@@ -36,9 +36,9 @@ impl<'a> Table<'a> {
     /// view of it.
     ///
     /// ```
-    /// use capstanbar::{Refusal, Table};
+    /// use capstanbar::{Refusal, Table, LINK_SLOTS, PARAM_SLOTS};
     ///
-    /// let (mut links, mut params) = ([0; 4], [0; 5]);
+    /// let (mut links, mut params) = ([0; LINK_SLOTS], [0; PARAM_SLOTS]);
     /// let table = Table::read(b"<a>;rel=next;rel=prev", &mut links, &mut params)?;
     /// assert_eq!(table.counts().params, 1); // of `rel` only the first is kept
     ///
@@ -58,9 +58,9 @@ impl<'a> Table<'a> {
     /// is answered in it, too.
     ///
     /// ```
-    /// use capstanbar::{Edition, Refusal, Table};
+    /// use capstanbar::{Edition, Refusal, Table, LINK_SLOTS, PARAM_SLOTS};
     ///
-    /// let (mut links, mut params) = ([0; 4], [0; 5]);
+    /// let (mut links, mut params) = ([0; LINK_SLOTS], [0; PARAM_SLOTS]);
     /// let header = b"<a>;rel=http://example.net/foo";
     /// let table = Table::read_in(Edition::Rfc5988, header, &mut links, &mut params)?;
     /// assert_eq!(table.search(b"HTTP://example.net/foo")?.target(), b"a");
@@ -86,11 +86,14 @@ impl<'a> Table<'a> {
     /// use capstanbar::{Counts, Refusal, Table};
     ///
     /// let counts = Counts { links: 1, params: 1 };
-    /// let table = Table::new(b"rel/a", &[3, 5, 0, 1], &[0, 3, 4, 5, 1], counts)?;
+    /// let table = Table::new(b"rel/a", &[3, 5, 0, 1], &[0, 3, 4, 5, 1, 1], counts)?;
     /// assert_eq!(table.search(b"A")?.target(), b"/a");
     ///
-    /// let past_the_end = Table::new(b"rel/a", &[3, 6, 0, 1], &[0, 3, 4, 5, 1], counts);
+    /// let past_the_end = Table::new(b"rel/a", &[3, 6, 0, 1], &[0, 3, 4, 5, 1, 1], counts);
     /// assert_eq!(past_the_end.unwrap_err(), Refusal::BadTable);
+    ///
+    /// let code_of_rev = Table::new(b"rel/a", &[3, 5, 0, 1], &[0, 3, 4, 5, 1, 8], counts);
+    /// assert_eq!(code_of_rev.unwrap_err(), Refusal::BadTable);
     /// # Ok::<(), Refusal>(())
     /// ```
     pub fn new(
@@ -106,9 +109,9 @@ impl<'a> Table<'a> {
     /// were read in.
     ///
     /// ```
-    /// use capstanbar::{read_in, Edition, Refusal, Table};
+    /// use capstanbar::{read_in, Edition, Refusal, Table, LINK_SLOTS, PARAM_SLOTS};
     ///
-    /// let (mut links, mut params) = ([0; 4], [0; 5]);
+    /// let (mut links, mut params) = ([0; LINK_SLOTS], [0; PARAM_SLOTS]);
     /// let header = b"<a>;rel=b/c";
     /// let counts = read_in(Edition::Rfc5988, header, &mut links, &mut params)?;
     /// assert!(Table::new_in(Edition::Rfc5988, header, &links, &params, counts).is_ok());
@@ -155,7 +158,7 @@ impl<'a> Table<'a> {
     /// How many links and parameters it holds.
     ///
     /// ```
-    /// # let (mut links, mut params) = ([0; 8], [0; 10]);
+    /// # let (mut links, mut params) = ([0; 8], [0; 64]);
     /// let table = capstanbar::Table::read(b"<a>;x;y, <b>", &mut links, &mut params)?;
     /// assert_eq!((table.counts().links, table.counts().params), (2, 2));
     /// # Ok::<(), capstanbar::Refusal>(())
@@ -172,7 +175,7 @@ impl<'a> Table<'a> {
     /// ```
     /// use capstanbar::{Edition, Table};
     ///
-    /// # let (mut links, mut params) = ([0; 8], [0; 10]);
+    /// # let (mut links, mut params) = ([0; 8], [0; 64]);
     /// let table = Table::read(b"<a>", &mut links, &mut params)?;
     /// assert_eq!(table.edition(), Edition::Rfc8288);
     /// let table = Table::read_in(Edition::Rfc5988, b"<a>", &mut links, &mut params)?;
@@ -186,7 +189,7 @@ impl<'a> Table<'a> {
     /// The text that its records are places in.
     ///
     /// ```
-    /// # let (mut links, mut params) = ([0; 8], [0; 10]);
+    /// # let (mut links, mut params) = ([0; 8], [0; 64]);
     /// let table = capstanbar::Table::read(b" <a> ", &mut links, &mut params)?;
     /// assert_eq!(table.text(), b" <a> ");
     /// # Ok::<(), capstanbar::Refusal>(())
@@ -198,7 +201,7 @@ impl<'a> Table<'a> {
     /// The table as the C interface takes it behind the edition.
     ///
     /// ```
-    /// # let (mut links, mut params) = ([0; 8], [0; 10]);
+    /// # let (mut links, mut params) = ([0; 8], [0; 64]);
     /// let table = capstanbar::Table::read(b"<a>", &mut links, &mut params)?;
     /// assert_eq!(table.raw().links[..4], [1, 2, 0, 0]);
     /// # Ok::<(), capstanbar::Refusal>(())
@@ -210,7 +213,7 @@ impl<'a> Table<'a> {
     /// The link of that number, if it is below the count.
     ///
     /// ```
-    /// # let (mut links, mut params) = ([0; 8], [0; 10]);
+    /// # let (mut links, mut params) = ([0; 8], [0; 64]);
     /// let table = capstanbar::Table::read(b"<a>, <b>", &mut links, &mut params)?;
     /// assert_eq!(table.link(1).unwrap().target(), b"b");
     /// assert!(table.link(2).is_none());
@@ -223,7 +226,7 @@ impl<'a> Table<'a> {
     /// The links in order.
     ///
     /// ```
-    /// # let (mut links, mut params) = ([0; 8], [0; 10]);
+    /// # let (mut links, mut params) = ([0; 8], [0; 64]);
     /// let table = capstanbar::Table::read(b"<a>, <b>", &mut links, &mut params)?;
     /// assert_eq!(table.links().len(), 2);
     /// assert_eq!(table.links().next_back().unwrap().target(), b"b");
@@ -240,7 +243,7 @@ impl<'a> Table<'a> {
     /// ```
     /// use capstanbar::{Refusal, Table};
     ///
-    /// # let (mut links, mut params) = ([0; 8], [0; 10]);
+    /// # let (mut links, mut params) = ([0; 8], [0; 64]);
     /// let table = Table::read(br#"<a>;rel=up, <b>;rel="start NEXT""#, &mut links, &mut params)?;
     /// assert_eq!(table.search(b"next")?.number(), 1);
     /// assert_eq!(table.search(b"prev").unwrap_err(), Refusal::NotFound);
@@ -260,7 +263,7 @@ impl<'a> Table<'a> {
     /// ```
     /// use capstanbar::{Refusal, Table};
     ///
-    /// # let (mut links, mut params) = ([0; 8], [0; 10]);
+    /// # let (mut links, mut params) = ([0; 8], [0; 64]);
     /// let table = Table::read(br##"<a>;anchor="#foo", <b>"##, &mut links, &mut params)?;
     /// assert_eq!(table.context(b"/base", 0)?, b"#foo");
     /// assert_eq!(table.context(b"/base", 1)?, b"/base");
@@ -291,7 +294,7 @@ impl<'a> Table<'a> {
     /// ```
     /// use capstanbar::{Refusal, Table};
     ///
-    /// # let (mut links, mut params) = ([0; 8], [0; 10]);
+    /// # let (mut links, mut params) = ([0; 8], [0; 64]);
     /// let table = Table::read(br#"<a>;title="say \"hi\"""#, &mut links, &mut params)?;
     /// let mut out = [0; 8];
     /// assert_eq!(table.value(0, 0, &mut out)?, b"say \"hi\"");
@@ -320,7 +323,7 @@ impl<'a> Table<'a> {
     /// ```
     /// use capstanbar::{Refusal, Table};
     ///
-    /// # let (mut links, mut params) = ([0; 8], [0; 10]);
+    /// # let (mut links, mut params) = ([0; 8], [0; 64]);
     /// let table = Table::read(br#" <a> ;REL = "ne\xt" ,"#, &mut links, &mut params)?;
     /// assert_eq!(table.write(&mut [0; 32])?, b"<a>; rel=next");
     ///

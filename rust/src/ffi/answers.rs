@@ -151,9 +151,9 @@ pub struct LengthAnswer {
 pub struct RawTable<'a> {
     /// The text that the records are places in.
     pub text: &'a [u8],
-    /// Link records, four slots each.
+    /// Link records, [`LINK_SLOTS`](crate::LINK_SLOTS) each.
     pub links: &'a [usize],
-    /// Parameter records, five slots each.
+    /// Parameter records, [`PARAM_SLOTS`](crate::PARAM_SLOTS) each.
     pub params: &'a [usize],
     /// How many links the slots hold.
     pub link_count: usize,
