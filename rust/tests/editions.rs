@@ -1,7 +1,7 @@
 //! What each edition reads, asks and writes; where they differ, and that nothing else does.
 
 use capstanbar::ffi::{self, RawTable};
-use capstanbar::{read_in, Counts, Edition, Form, Refusal, Table, LIMIT};
+use capstanbar::{read_in, Counts, Edition, Form, Refusal, Table, LIMIT, LINK_SLOTS, PARAM_SLOTS};
 use Edition::{Rfc5988, Rfc8288};
 
 /// By hand: a header, the place at which the newer edition finds it malformed, and the older one's
@@ -10,7 +10,7 @@ type Row = (
     &'static str,
     usize,
     usize,
-    &'static [[usize; 5]],
+    &'static [[usize; PARAM_SLOTS]],
     Option<&'static str>,
 );
 
@@ -19,31 +19,31 @@ const ROWS: &[Row] = &[
         "<a>;rel=a/b",
         9,
         1,
-        &[[4, 7, 8, 11, 3]],
+        &[[4, 7, 8, 11, 3, 1]],
         Some("<a>; rel=\"a/b\""),
     ),
-    ("<a>;x==", 6, 1, &[[4, 5, 6, 7, 3]], None),
-    ("<a>;x=<b>", 6, 1, &[[4, 5, 6, 9, 3]], None),
-    ("<a>;x = /,<b>", 8, 2, &[[4, 5, 8, 9, 3]], None),
+    ("<a>;x==", 6, 1, &[[4, 5, 6, 7, 3, 0]], None),
+    ("<a>;x=<b>", 6, 1, &[[4, 5, 6, 9, 3, 0]], None),
+    ("<a>;x = /,<b>", 8, 2, &[[4, 5, 8, 9, 3, 0]], None),
     (
         "<a>;x==y=;rel=z",
         6,
         1,
-        &[[4, 5, 6, 9, 3], [10, 13, 14, 15, 1]],
+        &[[4, 5, 6, 9, 3, 0], [10, 13, 14, 15, 1, 1]],
         Some("<a>; x=\"=y=\"; rel=z"),
     ),
     (
         "<a>;rel=http://example.net/foo",
         12,
         1,
-        &[[4, 7, 8, 30, 3]],
+        &[[4, 7, 8, 30, 3, 1]],
         Some("<a>; rel=\"http://example.net/foo\""),
     ),
     (
         "<a>;rel=b;rel=c/d",
         15,
         1,
-        &[[4, 7, 8, 9, 1]],
+        &[[4, 7, 8, 9, 1, 1]],
         Some("<a>; rel=b"),
     ),
 ];
@@ -78,17 +78,20 @@ const TOKEN: &[u8] =
     b"abcdefghijklmnopqrstuvwxyzABCDEFGHIJKLMNOPQRSTUVWXYZ0123456789!#$%&'*+-.^_`|~";
 const WIDER: &[u8] = b"()/:<=>?@[]{}";
 
-type Slots = ([usize; 12], [usize; 20]);
+type Slots = ([usize; 3 * LINK_SLOTS], [usize; 4 * PARAM_SLOTS]);
+
+/// What the slots hold before a call.
+const FILLED: Slots = ([7; 3 * LINK_SLOTS], [7; 4 * PARAM_SLOTS]);
 
 fn reading(edition: Edition, header: &[u8]) -> (Result<Counts, Refusal>, Slots) {
-    let mut slots = ([7; 12], [7; 20]);
+    let mut slots = FILLED;
     let counts = read_in(edition, header, &mut slots.0, &mut slots.1);
     (counts, slots)
 }
 
 /// What an edition writes of a header that it reads.
 fn written(edition: Edition, header: &[u8]) -> Result<Vec<u8>, Refusal> {
-    let mut slots = ([0; 12], [0; 20]);
+    let mut slots = FILLED;
     let table = Table::read_in(edition, header, &mut slots.0, &mut slots.1)?;
     assert_eq!(table.edition(), edition);
     table.write(&mut [0; LIMIT]).map(<[u8]>::to_vec)
@@ -99,13 +102,14 @@ fn rows_agree() {
     for &(header, place, links, records, form) in ROWS {
         let header = header.as_bytes();
         let refused = Err(Refusal::Malformed { place });
-        assert_eq!(reading(Rfc8288, header), (refused, ([7; 12], [7; 20])));
+        assert_eq!(reading(Rfc8288, header), (refused, FILLED));
 
         let (counts, slots) = reading(Rfc5988, header);
         let params = records.len();
         assert_eq!(counts, Ok(Counts { links, params }));
-        let due = records.iter().flatten().chain(&[7; 20]).take(20);
-        assert!(slots.1.iter().eq(due), "{}", header.escape_ascii());
+        let mut due = FILLED.1;
+        due[..params * PARAM_SLOTS].copy_from_slice(records.as_flattened());
+        assert_eq!(slots.1, due, "{}", header.escape_ascii());
 
         let form = form.ok_or(Refusal::NoRelation);
         assert_eq!(
@@ -177,7 +181,8 @@ fn each_octet_in_a_bare_value() {
             if TOKEN.contains(&octet) || WIDER.contains(&octet) {
                 let form = if TOKEN.contains(&octet) { 1 } else { 3 };
                 assert!(older.0.is_ok(), "{shown}");
-                assert_eq!(older.1 .1[..5], [4, 5, 6, header.len(), form], "{shown}");
+                let record = [4, 5, 6, header.len(), form, 0];
+                assert!(older.1 .1.starts_with(&record), "{shown}");
             }
         }
     }
@@ -185,7 +190,7 @@ fn each_octet_in_a_bare_value() {
 
 #[test]
 fn asked_in_the_older_edition() {
-    let (mut links, mut params) = ([0; 8], [0; 20]);
+    let (mut links, mut params) = ([0; 2 * LINK_SLOTS], [0; 4 * PARAM_SLOTS]);
     let header = b"<a>;rel=x/y, <b>;rel=HTTP://Example.net/Foo;anchor=/c?d;t=\"e\"";
     let table = Table::read_in(Rfc5988, header, &mut links, &mut params).unwrap();
     let link = table.search(b"http://example.NET/foo").unwrap();
@@ -228,7 +233,7 @@ fn good_by_form() {
     for &(value, both, older) in VALUES {
         let text = [b"rel", value].concat();
         for form in [0, 1, 2, 3, 4, 5, 255, 256, 259, usize::MAX] {
-            let (links, params) = ([0, 3, 0, 1], [0, 3, 3, text.len(), form]);
+            let (links, params) = ([0, 3, 0, 1], [0, 3, 3, text.len(), form, 1]);
             for &edition in Edition::ALL {
                 let good = both.contains(&form) || edition == Rfc5988 && older.contains(&form);
                 let table = Table::new_in(edition, &text, &links, &params, counts);
@@ -247,7 +252,7 @@ fn good_by_form() {
 #[test]
 fn unknown_editions() {
     let long = [b','; LIMIT + 1];
-    let (links, params) = ([1, 2, 0, 1], [4, 7, 8, 12, 1]);
+    let (links, params) = ([1, 2, 0, 1], [4, 7, 8, 12, 1, 1]);
     let good = RawTable {
         text: b"<a>;rel=next",
         links: &links,
@@ -268,12 +273,12 @@ fn unknown_editions() {
     ];
     for edition in [2, 3, 256, 1 << 32, usize::MAX] {
         for header in [&b"<a>;x"[..], b"<a", &long] {
-            for room in [0, 5] {
-                let (mut links, mut params) = ([7; 5], [7; 5]);
+            for room in [0, PARAM_SLOTS] {
+                let (mut links, mut params) = FILLED;
                 let answer = ffi::read(edition, header, &mut links[..room], &mut params[..room]);
                 assert_eq!((answer.number, answer.place), (10, 0));
                 assert_eq!((answer.links, answer.params), (0, 0));
-                assert_eq!((links, params), ([7; 5], [7; 5]));
+                assert_eq!((links, params), FILLED);
             }
         }
         for table in tables {
@@ -309,11 +314,11 @@ fn feedings_of_unknown_editions() {
                 assert_eq!(answer.next, state);
                 assert_eq!(buffer, [7; LIMIT]);
 
-                let (mut links, mut params) = ([7; 4], [7; 5]);
+                let (mut links, mut params) = FILLED;
                 let answer = ffi::finish(state, &buffer[..room], &mut links, &mut params);
                 assert_eq!((answer.number, answer.place), (10, 0));
                 assert_eq!((answer.links, answer.params), (0, 0));
-                assert_eq!((links, params), ([7; 4], [7; 5]));
+                assert_eq!((links, params), FILLED);
             }
         }
     }

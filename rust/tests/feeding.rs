@@ -1,6 +1,6 @@
 //! Headers in parts, however they are cut, held in each edition to what reading says of the octets fed.
 
-use capstanbar::{read_in, Counts, Edition, Feeding, Refusal, LIMIT};
+use capstanbar::{read_in, Counts, Edition, Feeding, Refusal, LIMIT, LINK_SLOTS, PARAM_SLOTS};
 
 const HEADERS: [&[u8]; 11] = [
     b"",
@@ -16,11 +16,14 @@ const HEADERS: [&[u8]; 11] = [
     b"<a>;x==/ <b>",
 ];
 
-type Slots = ([usize; 8], [usize; 20]);
+type Slots = ([usize; 2 * LINK_SLOTS], [usize; 4 * PARAM_SLOTS]);
+
+/// What the slots hold before a call.
+const FILLED: Slots = ([7; 2 * LINK_SLOTS], [7; 4 * PARAM_SLOTS]);
 
 /// What is read of a whole header, with the slots.
 fn whole(edition: Edition, header: &[u8]) -> (Result<Counts, Refusal>, Slots) {
-    let mut slots = ([7; 8], [7; 20]);
+    let mut slots = FILLED;
     let counts = read_in(edition, header, &mut slots.0, &mut slots.1);
     (counts, slots)
 }
@@ -55,7 +58,7 @@ fn check_in(edition: Edition, parts: &[&[u8]]) {
         assert_eq!(feeding.gathered(), gathered);
     }
     for _ in 0..2 {
-        let mut slots = ([7; 8], [7; 20]);
+        let mut slots = FILLED;
         let counts = feeding.finish(&mut slots.0, &mut slots.1);
         let due = whole(edition, &fed);
         assert_eq!((counts, slots), due, "{edition:?} {parts:?}");
@@ -110,7 +113,7 @@ fn about_the_limit() {
 
 #[test]
 fn a_view_of_what_was_fed() {
-    let (mut links, mut params) = ([0; 8], [0; 10]);
+    let (mut links, mut params) = ([0; 2 * LINK_SLOTS], [0; 2 * PARAM_SLOTS]);
     let mut buffer = [0; LIMIT];
     let mut feeding = Feeding::new(&mut buffer);
     feeding.feed(b"<a>; rel=next, <b").unwrap();
@@ -129,7 +132,7 @@ fn a_view_of_what_was_fed() {
 
 #[test]
 fn a_view_remembers_the_edition() {
-    let (mut links, mut params) = ([0; 4], [0; 5]);
+    let (mut links, mut params) = ([0; LINK_SLOTS], [0; PARAM_SLOTS]);
     let mut buffer = [0; LIMIT];
     let mut feeding = Feeding::new_in(Edition::Rfc5988, &mut buffer);
     feeding.feed(b"<a>; rel=b").unwrap();

@@ -1,6 +1,6 @@
 //! The known names of parameters, what is nearly one of them, and lookups by them.
 
-use capstanbar::{ffi, Link, Name, Table, LIMIT};
+use capstanbar::{ffi, Link, Name, Table, LIMIT, LINK_SLOTS, PARAM_SLOTS};
 
 /// Each name with its code, its octets in small letters, and whether a link keeps only the first.
 const ROWS: &[(Name, usize, &[u8], bool)] = &[
@@ -139,7 +139,7 @@ fn with_link(names: &[&[u8]], then: impl FnOnce(Link)) {
     for (place, name) in names.iter().enumerate() {
         header.extend([b"; ", *name, format!("={place}").as_bytes()].concat());
     }
-    let (mut links, mut params) = ([0; 4], [0; 5 * 32]);
+    let (mut links, mut params) = ([0; LINK_SLOTS], [0; 32 * PARAM_SLOTS]);
     let table = Table::read(&header, &mut links, &mut params).unwrap();
     then(table.link(0).unwrap());
 }

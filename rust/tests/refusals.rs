@@ -1,6 +1,6 @@
 //! Every refusal with its number and words, and what a refusal leaves alone.
 
-use capstanbar::{read, Refusal, Table};
+use capstanbar::{read, Refusal, Table, LINK_SLOTS, PARAM_SLOTS};
 
 #[test]
 fn numbers_and_words() {
@@ -32,15 +32,16 @@ fn reading_leaves_the_slots_alone() {
         (b"<a>,<b>,<c>", Refusal::NoLinkRoom),
         (b"<a>;x;y;z", Refusal::NoParamRoom),
     ] {
-        let (mut links, mut params) = ([7; 11], [8; 14]);
+        let slots = ([7; 3 * LINK_SLOTS - 1], [8; 3 * PARAM_SLOTS - 1]);
+        let (mut links, mut params) = slots;
         assert_eq!(read(header, &mut links, &mut params), Err(refusal));
-        assert_eq!((links, params), ([7; 11], [8; 14]));
+        assert_eq!((links, params), slots);
     }
 }
 
 #[test]
 fn output_is_left_alone() {
-    let (mut links, mut params) = ([0; 8], [0; 10]);
+    let (mut links, mut params) = ([0; 2 * LINK_SLOTS], [0; 2 * PARAM_SLOTS]);
     let header = b"<a>;rel=next,<b>;rel=\"\"";
     let table = Table::read(header, &mut links, &mut params).unwrap();
     let mut out = [9; 3];

@@ -1,13 +1,14 @@
 //! The headers read by hand, through the safe functions.
 
-use capstanbar::{read, Counts, Refusal, Table};
+use capstanbar::{read, Counts, Refusal, Table, LINK_SLOTS, PARAM_SLOTS};
 
 fn table<'a>(header: &'a str, links: &'a mut [usize], params: &'a mut [usize]) -> Table<'a> {
     Table::read(header.as_bytes(), links, params).unwrap()
 }
 
 fn counts(header: &str) -> Result<(usize, usize), Refusal> {
-    let Counts { links, params } = read(header.as_bytes(), &mut [0; 40], &mut [0; 50])?;
+    let (mut links, mut params) = ([0; 10 * LINK_SLOTS], [0; 10 * PARAM_SLOTS]);
+    let Counts { links, params } = read(header.as_bytes(), &mut links, &mut params)?;
     Ok((links, params))
 }
 
@@ -38,10 +39,11 @@ fn malformed_at() {
 #[test]
 fn records() {
     let header = "</terms>; rel=\"copyright\"; anchor=\"#foo\"";
-    let (mut links, mut params) = ([0; 4], [0; 10]);
+    let (mut links, mut params) = ([0; LINK_SLOTS], [0; 2 * PARAM_SLOTS]);
     let table = table(header, &mut links, &mut params);
     assert_eq!(table.raw().links, [1, 7, 0, 2]);
-    assert_eq!(table.raw().params, [10, 13, 15, 24, 2, 27, 33, 35, 39, 2]);
+    let records = [[10, 13, 15, 24, 2, 1], [27, 33, 35, 39, 2, 2]];
+    assert_eq!(table.raw().params, records.concat());
     assert_eq!(table.context(b"base", 0), Ok(&b"#foo"[..]));
 }
 
@@ -56,19 +58,19 @@ fn written() {
         ("<a>;REL=Next;rel=prev", "<a>; rel=Next"),
         ("<a>;rel=\"ne\\xt\"", "<a>; rel=next"),
     ] {
-        let (mut links, mut params) = ([0; 4], [0; 10]);
+        let (mut links, mut params) = ([0; LINK_SLOTS], [0; 2 * PARAM_SLOTS]);
         let table = table(header, &mut links, &mut params);
         assert_eq!(table.write(&mut [0; 64]), Ok(form.as_bytes()));
         assert_eq!(table.write(&mut vec![0; form.len()]), Ok(form.as_bytes()));
     }
-    let (mut links, mut params) = ([0; 4], [0; 5]);
+    let (mut links, mut params) = ([0; LINK_SLOTS], [0; PARAM_SLOTS]);
     let table = table("<>;x", &mut links, &mut params);
     assert_eq!(table.write(&mut [0; 64]), Err(Refusal::NoRelation));
 }
 
 #[test]
 fn searched() {
-    let (mut links, mut params) = ([0; 4], [0; 5]);
+    let (mut links, mut params) = ([0; LINK_SLOTS], [0; PARAM_SLOTS]);
     let table = table("<a>;rel=\"ne\\xt\"", &mut links, &mut params);
     assert_eq!(table.search(b"next").unwrap().target(), b"a");
     for relation in [&b""[..], b"ne\\xt", b"next ", b"prev"] {
