@@ -1,4 +1,4 @@
-use crate::{compare, ffi};
+use crate::{compare, ffi, Param};
 
 /// Makes `Name` of one row a name: its variant and code, its octets in small letters, and which of a
 /// link's parameters of that name are kept.
@@ -86,12 +86,16 @@ impl Name {
     /// assert_eq!(Name::of(b""), None);
     /// ```
     pub fn of(octets: &[u8]) -> Option<Name> {
-        let code = ffi::name_code(octets);
+        Name::coded(ffi::name_code(octets))
+    }
+
+    /// The one that has the code, if one has it.
+    pub(crate) fn coded(code: usize) -> Option<Name> {
         // Code 0 is no name's. A name that only the library knew would be as any other name here.
         Name::ALL.iter().copied().find(|name| name.code() == code)
     }
 
-    /// Its code, the one that the C interface answers.
+    /// Its code, the one that the C interface answers and that stands last in a parameter's record.
     ///
     /// ```
     /// use capstanbar::Name;
@@ -137,7 +141,8 @@ impl Name {
 /// What parameters are looked up by: a [`Name`], or any octets, whatever the case of letters.
 ///
 /// It is made where a lookup is given a name, of a `Name` or of a reference to octets of any kind.
-/// Octets that are a known name are taken for it, so there is one way to find it.
+/// Octets that are a known name are taken for it, so there is one way to find it: by the code in the
+/// parameters' records.
 ///
 /// ```
 /// use capstanbar::Name;
@@ -161,11 +166,12 @@ enum Wanted<'n> {
 }
 
 impl ByName<'_> {
-    /// Whether it is the name that these octets of a parameter are.
-    pub(crate) fn is(self, octets: &[u8]) -> bool {
+    /// Whether the parameter has that name. The record's code tells it of a known name; only other
+    /// names are compared.
+    pub(crate) fn is_of(self, param: &Param) -> bool {
         match self.0 {
-            Wanted::Known(name) => Name::of(octets) == Some(name),
-            Wanted::Other(other) => compare(other, octets).same,
+            Wanted::Known(name) => param.code() == name.code(),
+            Wanted::Other(other) => compare(other, param.name()).same,
         }
     }
 }

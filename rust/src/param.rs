@@ -86,7 +86,8 @@ impl<'a> Param<'a> {
         &self.table.text()[start..end]
     }
 
-    /// Which name that the library knows it has, if it has one.
+    /// Which name that the library knows it has, if it has one. The code in its record tells, and no
+    /// octet of the name is looked at.
     ///
     /// ```
     /// use capstanbar::Name;
@@ -98,7 +99,13 @@ impl<'a> Param<'a> {
     /// # Ok::<(), capstanbar::Refusal>(())
     /// ```
     pub fn known(&self) -> Option<Name> {
-        Name::of(self.name())
+        Name::coded(self.code())
+    }
+
+    /// The code of its name, 0 if the library doesn't know that.
+    pub(crate) fn code(&self) -> usize {
+        let [.., code] = self.table.param_record(self.number);
+        code
     }
 
     /// The octets of its value as written: those inside the quotes of a quoted string, backslashes
@@ -125,7 +132,7 @@ impl<'a> Param<'a> {
     /// # Ok::<(), capstanbar::Refusal>(())
     /// ```
     pub fn form(&self) -> Form {
-        let [.., form, _] = self.table.param_record(self.number);
+        let [_, _, _, _, form, ..] = self.table.param_record(self.number);
         match form {
             0 => Form::NoValue,
             1 => Form::Token,
@@ -244,7 +251,7 @@ impl<'a> Iterator for NamedParams<'a, '_> {
     type Item = Param<'a>;
 
     fn next(&mut self) -> Option<Param<'a>> {
-        self.params.find(|param| self.name.is(param.name()))
+        self.params.find(|param| self.name.is_of(param))
     }
 
     fn size_hint(&self) -> (usize, Option<usize>) {
@@ -254,6 +261,33 @@ impl<'a> Iterator for NamedParams<'a, '_> {
 
 impl DoubleEndedIterator for NamedParams<'_, '_> {
     fn next_back(&mut self) -> Option<Self::Item> {
-        self.params.rfind(|param| self.name.is(param.name()))
+        self.params.rfind(|param| self.name.is_of(param))
+    }
+}
+
+#[cfg(test)]
+mod tests {
+    use crate::{Counts, Edition, Name, Table};
+
+    /// Only in here can a table be made whose codes disagree with its names.
+    #[test]
+    fn the_code_alone_tells_a_known_name() {
+        let (links, counts) = (
+            [0, 0, 0, 2],
+            Counts {
+                links: 1,
+                params: 2,
+            },
+        );
+        let params = [0, 1, 1, 1, 0, Name::Rev.code(), 1, 4, 4, 4, 0, 0];
+        let table = Table::of(Edition::Rfc8288, b"xrev", &links, &params, counts);
+        let link = table.link(0).unwrap();
+        let known = link.params().map(|param| param.known());
+        assert!(known.eq([Some(Name::Rev), None]));
+        for mut found in [link.find_all(Name::Rev), link.find_all(b"REV")] {
+            assert_eq!(found.next_back().unwrap().name(), b"x");
+            assert!(found.next().is_none());
+        }
+        assert_eq!(link.find(Name::Rev).unwrap().name(), b"x");
     }
 }
