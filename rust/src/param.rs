@@ -269,18 +269,16 @@ impl DoubleEndedIterator for NamedParams<'_, '_> {
 mod tests {
     use crate::{Counts, Edition, Name, Table};
 
-    /// Only in here can a table be made whose codes disagree with its names.
+    /// Only inside the crate can a table be made whose codes disagree with its names.
     #[test]
     fn the_code_alone_tells_a_known_name() {
-        let (links, counts) = (
-            [0, 0, 0, 2],
-            Counts {
-                links: 1,
-                params: 2,
-            },
-        );
-        let params = [0, 1, 1, 1, 0, Name::Rev.code(), 1, 4, 4, 4, 0, 0];
-        let table = Table::of(Edition::Rfc8288, b"xrev", &links, &params, counts);
+        let counts = Counts {
+            links: 1,
+            params: 2,
+        };
+        let records = [[0, 1, 1, 1, 0, Name::Rev.code()], [1, 4, 4, 4, 0, 0]];
+        let (links, params) = ([0, 0, 0, 2], records.as_flattened());
+        let table = Table::of(Edition::Rfc8288, b"xrev", &links, params, counts);
         let link = table.link(0).unwrap();
         let known = link.params().map(|param| param.known());
         assert!(known.eq([Some(Name::Rev), None]));
