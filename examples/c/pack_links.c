@@ -28,7 +28,7 @@ static void print_languages(size_t number)
 
     for (size_t place = 0; place < link[3]; place++) {
         const size_t *param = params + CAPSTAN_PARAM_SLOTS * (link[2] + place);
-        if (capstan_name_code(text + param[0], param[1] - param[0]) != CAPSTAN_HREFLANG)
+        if (param[5] != CAPSTAN_HREFLANG) /* the code of its name */
             continue;
         capstan_length_answer meant = capstan_value(CAPSTAN_RFC8288, text, text_len, links, LINK_SLOTS, params, PARAM_SLOTS,
                                                     table.links, table.params, number, place, language, sizeof language);

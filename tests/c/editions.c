@@ -15,14 +15,14 @@ static const char wider_octets[] = "()/:<=>?@[]{}";
  * reads them, SIZE_MAX behind the last of fewer than three, and what it writes; null where a link has no relation.
  */
 static const struct { const char *header; size_t place, links, params[3][CAPSTAN_PARAM_SLOTS]; const char *written; } rows[] = {
-    { "<a>;rel=a/b", 9, 1, { { 4, 7, 8, 11, 3 }, { SIZE_MAX } }, "<a>; rel=\"a/b\"" },
-    { "<a>;x==", 6, 1, { { 4, 5, 6, 7, 3 }, { SIZE_MAX } }, NULL },
-    { "<a>;x=<b>", 6, 1, { { 4, 5, 6, 9, 3 }, { SIZE_MAX } }, NULL },
-    { "<a>;x = /,<b>", 8, 2, { { 4, 5, 8, 9, 3 }, { SIZE_MAX } }, NULL },
-    { "<a>;x==y=;rel=z", 6, 1, { { 4, 5, 6, 9, 3 }, { 10, 13, 14, 15, 1 }, { SIZE_MAX } }, "<a>; x=\"=y=\"; rel=z" },
-    { "<a>;rel=http://example.net/foo", 12, 1, { { 4, 7, 8, 30, 3 }, { SIZE_MAX } }, "<a>; rel=\"http://example.net/foo\"" },
-    { "<a>;rel=b;rel=c/d", 15, 1, { { 4, 7, 8, 9, 1 }, { SIZE_MAX } }, "<a>; rel=b" },
-    { "<a>;rel=b;anchor=/c;t=\"d\"", 17, 1, { { 4, 7, 8, 9, 1 }, { 10, 16, 17, 19, 3 }, { 20, 21, 23, 24, 2 } },
+    { "<a>;rel=a/b", 9, 1, { { 4, 7, 8, 11, 3, 1 }, { SIZE_MAX } }, "<a>; rel=\"a/b\"" },
+    { "<a>;x==", 6, 1, { { 4, 5, 6, 7, 3, 0 }, { SIZE_MAX } }, NULL },
+    { "<a>;x=<b>", 6, 1, { { 4, 5, 6, 9, 3, 0 }, { SIZE_MAX } }, NULL },
+    { "<a>;x = /,<b>", 8, 2, { { 4, 5, 8, 9, 3, 0 }, { SIZE_MAX } }, NULL },
+    { "<a>;x==y=;rel=z", 6, 1, { { 4, 5, 6, 9, 3, 0 }, { 10, 13, 14, 15, 1, 1 }, { SIZE_MAX } }, "<a>; x=\"=y=\"; rel=z" },
+    { "<a>;rel=http://example.net/foo", 12, 1, { { 4, 7, 8, 30, 3, 1 }, { SIZE_MAX } }, "<a>; rel=\"http://example.net/foo\"" },
+    { "<a>;rel=b;rel=c/d", 15, 1, { { 4, 7, 8, 9, 1, 1 }, { SIZE_MAX } }, "<a>; rel=b" },
+    { "<a>;rel=b;anchor=/c;t=\"d\"", 17, 1, { { 4, 7, 8, 9, 1, 1 }, { 10, 16, 17, 19, 3, 2 }, { 20, 21, 23, 24, 2, 0 } },
       "<a>; rel=b; anchor=\"/c\"; t=d" },
 };
 enum { ROWS = sizeof rows / sizeof *rows };
@@ -223,7 +223,7 @@ static void test_each_octet(void)
 
             const reading newer = read_in(CAPSTAN_RFC8288, header, len), older = read_in(CAPSTAN_RFC5988, header, len);
             const int token = is_in(token_octets, octet), wider = is_in(wider_octets, octet);
-            const size_t record[] = { 4, 5, 6, len, token ? CAPSTAN_TOKEN : CAPSTAN_WIDER };
+            const size_t record[] = { 4, 5, 6, len, token ? CAPSTAN_TOKEN : CAPSTAN_WIDER, CAPSTAN_OTHER_NAME };
             if (token || wider)
                 expect(older.answer.number == CAPSTAN_DONE && memcmp(older.params, record, sizeof record) == 0, CAPSTAN_RFC5988, header,
                        len, "a bare value");
@@ -264,7 +264,7 @@ static void test_forms(void)
         memcpy(text + 3, values[i].value, len - 3);
         for (size_t j = 0; j < EDITIONS * sizeof forms / sizeof *forms; j++) {
             const size_t edition = j % EDITIONS, form = forms[j / EDITIONS];
-            const reading r = { { CAPSTAN_DONE, 0, 1, 1 }, { 0, 3, 0, 1 }, { 0, 3, 3, len, form } };
+            const reading r = { { CAPSTAN_DONE, 0, 1, 1 }, { 0, 3, 0, 1 }, { 0, 3, 3, len, form, CAPSTAN_REL } };
             const int whose = form <= CAPSTAN_WIDER ? values[i].good[form] : NEITHER;
             if (whose == BOTH || (whose == OLDER && edition == CAPSTAN_RFC5988))
                 expect(number_of_search(edition, text, len, &r, "") == CAPSTAN_NOT_FOUND, edition, text, len, "a good table");

@@ -59,7 +59,7 @@ int main()
         && c.number == CAPSTAN_DONE && c.source == CAPSTAN_BASE && c.start == 0 && c.end == base.size() && v.number == CAPSTAN_DONE
         && v.length == relation.size() && std::memcmp(out.data(), relation.data(), v.length) == 0 && w.number == CAPSTAN_DONE
         && w.length == form.size() && std::memcmp(written.data(), form.data(), w.length) == 0 && code == CAPSTAN_REL
-        && alike.same == 1 && alike.pairs == name.size() && parts_hold(header, r, links, params);
+        && params.back() == code && alike.same == 1 && alike.pairs == name.size() && parts_hold(header, r, links, params);
     if (!holds)
         std::puts("header.cpp: an answer is not the one expected");
     return holds ? 0 : 1;
