@@ -46,6 +46,7 @@ pub use feeding::Feeding;
 pub use listing::listing;
 pub use meaning::{meanings, LinkMeaning, ParamMeaning};
 pub use read::{read, ReadAnswer};
+pub use record::PARAM_SLOTS;
 pub use search::search;
 pub use table::good;
 pub use value::value;

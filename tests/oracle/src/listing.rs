@@ -2,6 +2,7 @@
 
 use crate::number::DONE;
 use crate::read::{read, ReadAnswer};
+use crate::record::PARAM_SLOTS;
 
 /// The number of the edition that it reads in.
 pub const RFC_8288: usize = 0;
@@ -12,7 +13,7 @@ pub const PARAM_ROOM: usize = 1024;
 /// final LF, if there, that doesn't belong to it.
 pub fn listing(input: &[u8]) -> String {
     let header = input.strip_suffix(b"\n").unwrap_or(input);
-    let (mut link_slots, mut param_slots) = ([0; LINK_ROOM * 4], [0; PARAM_ROOM * 5]);
+    let (mut link_slots, mut param_slots) = ([0; LINK_ROOM * 4], [0; PARAM_ROOM * PARAM_SLOTS]);
     let (lines, _) = listed(RFC_8288, header, &mut link_slots, &mut param_slots);
     lines
 }
@@ -29,7 +30,7 @@ pub fn listed(
         return (line("refused", &[answer.number, answer.place]), answer);
     }
     let mut lines = line("links", &[answer.links, answer.params]);
-    let mut params = param_slots.as_chunks::<5>().0.iter().enumerate();
+    let mut params = param_slots.as_chunks::<PARAM_SLOTS>().0.iter().enumerate();
     let links = link_slots.as_chunks::<4>().0.iter().enumerate();
     for (link, record) in links.take(answer.links) {
         lines += &line("link", &[&[link], &record[..]].concat());

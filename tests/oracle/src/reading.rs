@@ -1,5 +1,6 @@
 //! The reading of a header: the records that a derivation of it gives.
 
+use crate::code::name_code;
 use crate::derivation::{derivation, Node};
 use crate::edition::Edition;
 use crate::grammar::{field, Label};
@@ -21,7 +22,9 @@ pub fn reading(edition: Edition, header: &[u8]) -> Option<Vec<Link>> {
 pub fn links(header: &[u8], field: &[Node]) -> Vec<Link> {
     labelled(field, Label::Link)
         .map(|link| {
-            let params: Vec<Param> = labelled(&link.parts, Label::Parameter).map(param).collect();
+            let params: Vec<Param> = labelled(&link.parts, Label::Parameter)
+                .map(|parameter| param(header, parameter))
+                .collect();
             Link {
                 target: only(&link.parts, Label::Target).expect("a link has a target"),
                 params: kept(header, &params),
@@ -30,7 +33,7 @@ pub fn links(header: &[u8], field: &[Node]) -> Vec<Link> {
         .collect()
 }
 
-fn param(parameter: &Node) -> Param {
+fn param(header: &[u8], parameter: &Node) -> Param {
     let name = only(&parameter.parts, Label::Name).expect("a parameter has a name");
     let (start, end) = (name.end, name.end);
     let (value, form) = [
@@ -41,7 +44,12 @@ fn param(parameter: &Node) -> Param {
     .into_iter()
     .find_map(|(label, form)| Some((only(&parameter.parts, label)?, form)))
     .unwrap_or((Span { start, end }, Form::NoValue));
-    Param { name, value, form }
+    Param {
+        name,
+        value,
+        form,
+        code: name_code(name.of(header)),
+    }
 }
 
 fn labelled(nodes: &[Node], label: Label) -> impl Iterator<Item = &Node> {

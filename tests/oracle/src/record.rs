@@ -1,5 +1,8 @@
 //! Link and parameter records, and how they stand in the lent slots.
 
+/// How many slots a parameter record takes.
+pub const PARAM_SLOTS: usize = 6;
+
 /// An octet place and the place one past the end.
 #[derive(Clone, Copy, Debug, PartialEq, Eq)]
 pub struct Span {
@@ -43,6 +46,8 @@ pub struct Param {
     pub name: Span,
     pub value: Span,
     pub form: Form,
+    /// What the record says; in a good table it is the name's.
+    pub code: usize,
 }
 
 /// A link with its own parameters; the number of the first one is only made
@@ -66,18 +71,26 @@ pub fn link_records(links: &[Link]) -> Vec<[usize; 4]> {
         .collect()
 }
 
-/// The parameter records: name start and end, value start and end, form.
-pub fn param_records(links: &[Link]) -> Vec<[usize; 5]> {
+/// The parameter records: name start and end, value start and end, form, code.
+pub fn param_records(links: &[Link]) -> Vec<[usize; PARAM_SLOTS]> {
     let params = links.iter().flat_map(|link| &link.params);
     params
-        .map(|&Param { name, value, form }| {
-            let form = match form {
+        .map(|param| {
+            let Param { name, value, .. } = *param;
+            let form = match param.form {
                 Form::NoValue => 0,
                 Form::Token => 1,
                 Form::Quoted => 2,
                 Form::Further => 3,
             };
-            [name.start, name.end, value.start, value.end, form]
+            [
+                name.start,
+                name.end,
+                value.start,
+                value.end,
+                form,
+                param.code,
+            ]
         })
         .collect()
 }
@@ -109,8 +122,8 @@ pub fn links_of_slots(
     (next == param_count).then_some(links)
 }
 
-fn param_of_record(record: &[usize; 5]) -> Option<Param> {
-    let &[name_start, name_end, value_start, value_end, form] = record;
+fn param_of_record(record: &[usize; PARAM_SLOTS]) -> Option<Param> {
+    let &[name_start, name_end, value_start, value_end, form, code] = record;
     Some(Param {
         name: Span {
             start: name_start,
@@ -127,5 +140,6 @@ fn param_of_record(record: &[usize; 5]) -> Option<Param> {
             3 => Form::Further,
             _ => return None,
         },
+        code,
     })
 }

@@ -1,5 +1,6 @@
 //! Good tables.
 
+use crate::code::name_code;
 use crate::edition::Edition;
 use crate::grammar::{Rule, FURTHER, QUOTED, TARGET, TOKEN};
 use crate::kept::repeats;
@@ -76,14 +77,19 @@ fn good_link(edition: Edition, text: &[u8], link: &Link) -> bool {
 }
 
 fn good_param(edition: Edition, text: &[u8], param: &Param) -> bool {
-    let Param { name, value, form } = *param;
+    let Param {
+        name,
+        value,
+        form,
+        code,
+    } = *param;
     let good_value = match form {
         Form::NoValue => value.start == name.end && value.end == name.end,
         Form::Token => obeys(text, value, &TOKEN),
         Form::Quoted => obeys(text, value, &QUOTED),
         Form::Further => edition == Edition::Rfc5988 && obeys(text, value, &FURTHER),
     };
-    obeys(text, name, &TOKEN) && good_value
+    obeys(text, name, &TOKEN) && good_value && code == name_code(name.of(text))
 }
 
 /// Whether it is a span of the text whose octets the rule derives.

@@ -5,6 +5,7 @@ use crate::context::{context, TEXT};
 use crate::listing::{line, listed, LINK_ROOM, PARAM_ROOM, RFC_8288};
 use crate::number::DONE;
 use crate::read::ReadAnswer;
+use crate::record::PARAM_SLOTS;
 use crate::search::search;
 use crate::value::value;
 use crate::write::write;
@@ -14,7 +15,7 @@ const EDITIONS: [usize; 2] = [0, 1];
 const LENGTHS: [usize; 3] = [8191, 8192, 8193];
 /// It has two links and three parameters.
 const ROOMY: &[u8] = b"<a>;x;y,<b>;z";
-const ROOMS: [(usize, usize); 6] = [(8, 15), (11, 19), (7, 15), (8, 14), (7, 14), (0, 0)];
+const ROOMS: [(usize, usize); 6] = [(8, 18), (11, 23), (7, 18), (8, 17), (7, 17), (0, 0)];
 
 const RELATION: &[u8] = b"next";
 const BASE: &[u8] = b"BASE";
@@ -59,7 +60,7 @@ pub fn vectors(input: &[u8]) -> Vec<u8> {
 fn put_header(out: &mut Vec<u8>, edition: usize, header: &[u8]) {
     let name = [format!("{edition} ").as_bytes(), header].concat();
     let mut link_slots = [0; LINK_ROOM * 4];
-    let mut param_slots = [0; PARAM_ROOM * 5];
+    let mut param_slots = [0; PARAM_ROOM * PARAM_SLOTS];
     let answer = put_case(
         out,
         edition,

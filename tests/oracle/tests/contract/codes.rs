@@ -1,7 +1,7 @@
 //! The codes of names, and which names a link keeps once.
 
 use crate::{accepted, Tables};
-use oracle::name_code;
+use oracle::{name_code, PARAM_SLOTS};
 use std::collections::BTreeMap;
 
 /// A known name.
@@ -43,7 +43,7 @@ fn mixes(name: &str) -> Vec<Vec<u8>> {
 }
 
 /// Every mix of every name with its code.
-fn known() -> BTreeMap<Vec<u8>, usize> {
+pub fn known() -> BTreeMap<Vec<u8>, usize> {
     let of_row = |&Known { name, code, .. }| mixes(name).into_iter().map(move |mix| (mix, code));
     NAMES.iter().flat_map(of_row).collect()
 }
@@ -67,9 +67,9 @@ fn neighbours(octets: &[u8]) -> Vec<Vec<u8>> {
 fn kept(params: &[String]) -> Vec<String> {
     let header = format!("<a>;{}", params.join(";"));
     let Tables { param_slots, .. } = accepted(header.as_bytes());
-    let records = param_slots.as_chunks::<5>().0.iter();
+    let records = param_slots.as_chunks::<PARAM_SLOTS>().0.iter();
     records
-        .map(|&[start, _, _, end, _]| header[start..end].to_string())
+        .map(|&[start, _, _, end, ..]| header[start..end].to_string())
         .collect()
 }
 
@@ -81,6 +81,18 @@ fn every_mix_of_case_has_the_code() {
     assert_eq!(known.len(), count);
     for (name, code) in known {
         assert_eq!(name_code(&name), code, "{}", name.escape_ascii());
+    }
+}
+
+#[test]
+fn a_record_ends_in_the_code_of_its_name_in_any_case() {
+    for (name, code) in known() {
+        let end = 4 + name.len();
+        let header = [b"<a>;", &name[..]].concat();
+        assert_eq!(accepted(&header).param_slots, [4, end, end, end, 0, code]);
+        let longer = [&header[..], b"x"].concat();
+        let end = end + 1;
+        assert_eq!(accepted(&longer).param_slots, [4, end, end, end, 0, 0]);
     }
 }
 

@@ -1,6 +1,7 @@
 //! The older edition beside the newer one, and numbers of no edition.
 
 use crate::{accepted, accepted_in, read_amply, refusal, written, Tables, EDITIONS};
+use oracle::PARAM_SLOTS;
 
 /// What the older edition allows in a bare value beside the octets of a token.
 pub const FURTHER: &[u8; 13] = b"()/:<=>?@[]{}";
@@ -13,7 +14,7 @@ fn token(octet: u8) -> bool {
 }
 
 /// The records of the last parameter, read in the older edition.
-fn last_param(header: &[u8]) -> [usize; 5] {
+fn last_param(header: &[u8]) -> [usize; PARAM_SLOTS] {
     *accepted_in(1, header).param_slots.last_chunk().unwrap()
 }
 
@@ -34,7 +35,7 @@ fn a_relation_that_stands_bare() {
     assert_eq!(malformed(0, header), 9);
     let tables = accepted_in(1, header);
     assert_eq!(tables.link_slots, [1, 2, 0, 1]);
-    assert_eq!(tables.param_slots, [4, 7, 8, 11, 3]);
+    assert_eq!(tables.param_slots, [4, 7, 8, 11, 3, 1]);
     assert_eq!(tables.search("A/B"), (0, 0));
     assert_eq!(tables.search("a"), (9, 0));
     assert_eq!(tables.value(0, 0, 3).unwrap(), b"a/b");
@@ -48,7 +49,10 @@ fn an_address_for_a_relation_and_one_for_a_context() {
     let header = b"<a>; rel=http://example.net/foo; anchor=/x?y=[z]";
     assert_eq!(malformed(0, header), 13);
     let tables = accepted_in(1, header);
-    assert_eq!(tables.param_slots, [5, 8, 9, 31, 3, 33, 39, 40, 48, 3]);
+    assert_eq!(
+        tables.param_slots,
+        [5, 8, 9, 31, 3, 1, 33, 39, 40, 48, 3, 2]
+    );
     assert_eq!(tables.search("HTTP://example.net/foo"), (0, 0));
     assert_eq!(tables.context(b"base", 0), (0, 1, 40, 48));
     assert_eq!(
@@ -62,7 +66,7 @@ fn each_octet_alone_and_beside_a_token() {
     for octet in 0..=255 {
         for value in [&[octet][..], &[octet, b'x'], &[b'x', octet]] {
             let header = [b"<a>;b=", value, b",<c>"].concat();
-            let record = |form| [4, 5, 6, 6 + value.len(), form];
+            let record = |form| [4, 5, 6, 6 + value.len(), form, 0];
             let place = 6 + usize::from(value[0] == b'x');
             if token(octet) {
                 assert_eq!(accepted(&header).param_slots, record(1));
@@ -85,18 +89,19 @@ fn one_octet_outside_a_token_is_enough_wherever_it_stands() {
             let mut header = *b"<a>;b=123456;c";
             header[6 + at] = octet;
             let tables = accepted_in(1, &header);
-            assert_eq!(tables.param_slots, [4, 5, 6, 12, 3, 13, 14, 14, 14, 0]);
+            let params = [[4, 5, 6, 12, 3, 0], [13, 14, 14, 14, 0, 0]];
+            assert_eq!(tables.param_slots, params.concat());
         }
     }
 }
 
 #[test]
 fn delimiters_stay() {
-    assert_eq!(last_param(b"<a>;x=="), [4, 5, 6, 7, 3]);
-    assert_eq!(last_param(b"<a>;x=<b>"), [4, 5, 6, 9, 3]);
-    assert_eq!(last_param(b"<a> ; x = = ; y"), [14, 15, 15, 15, 0]);
-    assert_eq!(last_param(b"<a>;x=/;y=b"), [8, 9, 10, 11, 1]);
-    assert_eq!(last_param(b"<a>;rel=(a);rel=b"), [4, 7, 8, 11, 3]);
+    assert_eq!(last_param(b"<a>;x=="), [4, 5, 6, 7, 3, 0]);
+    assert_eq!(last_param(b"<a>;x=<b>"), [4, 5, 6, 9, 3, 0]);
+    assert_eq!(last_param(b"<a> ; x = = ; y"), [14, 15, 15, 15, 0, 0]);
+    assert_eq!(last_param(b"<a>;x=/;y=b"), [8, 9, 10, 11, 1, 0]);
+    assert_eq!(last_param(b"<a>;rel=(a);rel=b"), [4, 7, 8, 11, 3, 1]);
     assert_eq!(
         accepted_in(1, b"<a>;x=b:c,<d>").link_slots[4..],
         [11, 12, 1, 0]
@@ -136,7 +141,7 @@ fn targets_stay() {
 /// A table of one link and one parameter `x`, whose value are these octets.
 fn with_value(octets: &[u8], form: usize) -> Tables {
     let text = [b"x ", octets].concat();
-    Tables::new(&text, &[[0, 1, 0, 1]], &[[0, 1, 2, text.len(), form]])
+    Tables::new(&text, &[[0, 1, 0, 1]], &[[0, 1, 2, text.len(), form, 0]])
 }
 
 /// Whether the value is right for that form in each edition.
@@ -179,7 +184,7 @@ fn spans_of_form_3_lie_in_the_text() {
 #[test]
 fn what_is_asked_of_a_form_3_value() {
     let text = b"REL a/b =";
-    let params = [[0, 3, 4, 7, 3], [5, 6, 8, 9, 3]];
+    let params = [[0, 3, 4, 7, 3, 1], [5, 6, 8, 9, 3, 0]];
     let bad = Tables::new(b"REL a/b =", &[[4, 7, 0, 1]], &params[..1]);
     assert_eq!(bad.search("a/b"), (5, 0));
     assert_eq!(bad.context(b"base", 0), (5, 0, 0, 0));

@@ -2,7 +2,7 @@
 //! buffer then holds.
 
 use crate::{read_amply, read_in, refusal, EDITIONS, HELD, HELD_OCTET};
-use oracle::{Feeding, ReadAnswer};
+use oracle::{Feeding, ReadAnswer, PARAM_SLOTS};
 
 /// A feeding with its buffer.
 struct Fed {
@@ -50,7 +50,7 @@ impl Fed {
     }
 
     fn finish(&self) -> ReadAnswer {
-        self.finish_in(&mut [HELD; 4 * 2731], &mut [HELD; 5 * 4096])
+        self.finish_in(&mut [HELD; 4 * 2731], &mut [HELD; PARAM_SLOTS * 4096])
     }
 
     fn finish_in(&self, link_slots: &mut [usize], param_slots: &mut [usize]) -> ReadAnswer {
@@ -71,11 +71,11 @@ fn parts_gather_in_the_buffer() {
         assert!(fed.holds(whole.as_bytes()), "{whole}");
     }
     let mut links = [HELD; 5];
-    let mut params = [HELD; 6];
+    let mut params = [HELD; PARAM_SLOTS + 1];
     let answer = fed.finish_in(&mut links, &mut params);
     assert_eq!((answer.number, answer.links, answer.params), (0, 1, 1));
     assert_eq!(links, [1, 2, 0, 1, HELD]);
-    assert_eq!(params, [4, 7, 7, 7, 0, HELD]);
+    assert_eq!(params, [4, 7, 7, 7, 0, 1, HELD]);
 }
 
 #[test]
@@ -165,7 +165,7 @@ fn every_cut_finishes_so(edition: usize, header: &[u8]) {
         fed.feed(second);
         assert_eq!(fed.finish(), read_amply(edition, header).0);
         for (links, params) in [(0, 9), (9, 0), (1, 1), (2, 3)] {
-            let mut slots = (vec![HELD; 4 * links], vec![HELD; 5 * params]);
+            let mut slots = (vec![HELD; 4 * links], vec![HELD; PARAM_SLOTS * params]);
             let answer = fed.finish_in(&mut slots.0, &mut slots.1);
             assert_eq!(answer, read_in(edition, header, links, params).0);
         }
@@ -179,10 +179,10 @@ fn the_older_edition_is_kept_through_the_feeds() {
         assert_eq!(fed.feed(part.as_bytes()), (0, 0));
     }
     assert!(fed.holds(b"<a>;rel=b/<c>,<d>"));
-    let (mut links, mut params) = ([HELD; 8], [HELD; 5]);
+    let (mut links, mut params) = ([HELD; 8], [HELD; PARAM_SLOTS]);
     let answer = fed.finish_in(&mut links, &mut params);
     assert_eq!((answer.number, answer.links, answer.params), (0, 2, 1));
-    assert_eq!(params, [4, 7, 8, 13, 3]);
+    assert_eq!(params, [4, 7, 8, 13, 3, 1]);
     assert_eq!(Fed::of(b"<a>;rel=b").feed(b"/"), (2, 9));
 }
 

@@ -155,8 +155,8 @@ fn a_join_reads_as_its_headers() {
             for &[start, end, first, count] in tables.link_slots.as_chunks().0 {
                 links.push([start + raised, end + raised, first + former, count]);
             }
-            for &[a, b, c, d, form] in tables.param_slots.as_chunks().0 {
-                params.push([a + raised, b + raised, c + raised, d + raised, form]);
+            for &[a, b, c, d, form, code] in tables.param_slots.as_chunks().0 {
+                params.push([a + raised, b + raised, c + raised, d + raised, form, code]);
             }
             join.extend(header);
             join.extend(vec![b'\t'; numbers.below(3)]);

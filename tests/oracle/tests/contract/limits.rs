@@ -50,11 +50,11 @@ fn room_is_rounded_down() {
         refusal(3, 0)
     );
     assert_eq!(
-        oracle::read(0, b"<a>;x;y", &mut [0; 4], &mut [0; 9]),
+        oracle::read(0, b"<a>;x;y", &mut [0; 4], &mut [0; 11]),
         refusal(4, 0)
     );
     assert_eq!(
-        oracle::read(0, b"<a>;x;y", &mut [0; 7], &mut [0; 14]).number,
+        oracle::read(0, b"<a>;x;y", &mut [0; 7], &mut [0; 17]).number,
         0
     );
 }

@@ -13,7 +13,7 @@ mod rows;
 mod tables;
 mod writing;
 
-use oracle::ReadAnswer;
+use oracle::{ReadAnswer, PARAM_SLOTS};
 
 /// What slots and output hold before a call.
 const HELD: usize = 7777;
@@ -34,7 +34,7 @@ struct Tables {
 }
 
 impl Tables {
-    fn new(text: &[u8], links: &[[usize; 4]], params: &[[usize; 5]]) -> Tables {
+    fn new(text: &[u8], links: &[[usize; 4]], params: &[[usize; PARAM_SLOTS]]) -> Tables {
         Tables {
             edition: 0,
             text: text.to_vec(),
@@ -154,9 +154,9 @@ fn read_in(
     param_room: usize,
 ) -> (ReadAnswer, Tables) {
     let mut link_slots = vec![HELD; link_room * 4];
-    let mut param_slots = vec![HELD; param_room * 5];
+    let mut param_slots = vec![HELD; param_room * PARAM_SLOTS];
     let answer = oracle::read(edition, header, &mut link_slots, &mut param_slots);
-    let used = (answer.links * 4, answer.params * 5);
+    let used = (answer.links * 4, answer.params * PARAM_SLOTS);
     assert!(link_slots[used.0..].iter().all(|&slot| slot == HELD));
     assert!(param_slots[used.1..].iter().all(|&slot| slot == HELD));
     let tables = Tables {

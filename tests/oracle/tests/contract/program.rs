@@ -29,10 +29,10 @@ fn lists_links_with_their_parameters() {
         b"<a>;x,<b>,<c>;y=z\n",
         "links\t3\t2\n\
          link\t0\t1\t2\t0\t1\n\
-         param\t0\t4\t5\t5\t5\t0\n\
+         param\t0\t4\t5\t5\t5\t0\t0\n\
          link\t1\t7\t8\t1\t0\n\
          link\t2\t11\t12\t1\t1\n\
-         param\t1\t14\t15\t16\t17\t1\n",
+         param\t1\t14\t15\t16\t17\t1\t0\n",
     );
 }
 

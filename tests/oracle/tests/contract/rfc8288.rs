@@ -11,7 +11,10 @@ fn previous_chapter() {
     let tables =
         read("<http://example.com/TheBook/chapter2>; rel=\"previous\"; title=\"previous chapter\"");
     assert_eq!(tables.link_slots, [1, 36, 0, 2]);
-    assert_eq!(tables.param_slots, [39, 42, 44, 52, 2, 55, 60, 62, 78, 2]);
+    assert_eq!(
+        tables.param_slots,
+        [39, 42, 44, 52, 2, 1, 55, 60, 62, 78, 2, 4]
+    );
     assert_eq!(tables.search("previous"), (0, 0));
     assert_eq!(tables.value(0, 1, 100).unwrap(), b"previous chapter");
     assert_eq!(
@@ -24,7 +27,7 @@ fn previous_chapter() {
 fn extension_relation() {
     let tables = read("</>; rel=\"http://example.net/foo\"");
     assert_eq!(tables.link_slots, [1, 2, 0, 1]);
-    assert_eq!(tables.param_slots, [5, 8, 10, 32, 2]);
+    assert_eq!(tables.param_slots, [5, 8, 10, 32, 2, 1]);
     assert_eq!(tables.search("HTTP://EXAMPLE.NET/FOO"), (0, 0));
     assert_eq!(
         written(&tables).unwrap(),
@@ -49,8 +52,8 @@ fn titles_in_german() {
     assert_eq!(
         tables.param_slots,
         [
-            21, 24, 26, 34, 2, 37, 43, 44, 70, 1, //
-            93, 96, 98, 102, 2, 105, 111, 112, 144, 1
+            21, 24, 26, 34, 2, 1, 37, 43, 44, 70, 1, 5, //
+            93, 96, 98, 102, 2, 1, 105, 111, 112, 144, 1, 5
         ]
     );
     assert_eq!(tables.search("next"), (0, 1));

@@ -52,7 +52,7 @@ fn exact_output_room_is_enough_and_one_fewer_is_not() {
 fn form_of(length: usize) -> Tables {
     let target = (length - 20) / 2;
     let text = [&vec![b'a'; target][..], b"rel"].concat();
-    let param = |value| [target, target + 3, target, target + value, 1];
+    let param = |value| [target, target + 3, target, target + value, 1, 1];
     Tables::new(
         &text,
         &[[0, target, 0, 1], [0, target, 1, 1]],
