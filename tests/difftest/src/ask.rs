@@ -9,7 +9,7 @@ use crate::shown::{self, Difference};
 use crate::tables::Tables;
 use crate::view;
 use oracle::number::LIMIT;
-use oracle::LinkMeaning;
+use oracle::{LinkMeaning, PARAM_SLOTS};
 
 /// Up to so many links, parameters and relations each one is asked for; of more, as many.
 const ASKED: usize = 4;
@@ -41,7 +41,7 @@ pub fn ask(run: &mut Run, tables: &Tables) -> Compared<()> {
     view::compare(tables, meanings.as_deref())?;
     if meanings.is_some() {
         codes::compare(run, tables)?;
-        forms(run, tables);
+        records(run, tables);
     }
     match form {
         Some(form) => read_back(run, tables, links, &form),
@@ -62,12 +62,13 @@ fn unknown(run: &mut Run, tables: &Tables) -> Compared<()> {
     asked.unchanged()
 }
 
-/// Counts the forms of a good table's values.
-fn forms(run: &mut Run, tables: &Tables) {
+/// Counts the forms and the codes in a good table's records.
+fn records(run: &mut Run, tables: &Tables) {
     let params = &tables.params.as_chunks().0[..tables.param_count];
-    for &[_, _, _, _, form] in params {
+    for &[_, _, _, _, form, code] in params {
         let edition = In::of(tables.edition);
         run.reached.count_in(edition, Entry::Form, form);
+        run.reached.count_in(edition, Entry::Code, code);
     }
 }
 
@@ -148,7 +149,8 @@ fn writes(run: &mut Run, asked: &Asked) -> Compared<Option<Vec<u8>>> {
 /// the same records in each edition.
 fn read_back(run: &mut Run, tables: &Tables, links: &[LinkMeaning], form: &[u8]) -> Compared<()> {
     let (link_count, param_count) = (tables.link_count, tables.param_count);
-    let (answer, back) = read(run, tables.edition, form, 4 * link_count, 5 * param_count)?;
+    let (link_slots, param_slots) = (4 * link_count, PARAM_SLOTS * param_count);
+    let (answer, back) = read(run, tables.edition, form, link_slots, param_slots)?;
     let counts = (answer.number, answer.links, answer.params);
     let same = counts == (0, link_count, param_count) && back.meanings().as_deref() == Some(links);
     run.also("read-back");

@@ -2,11 +2,12 @@
 //! compare as their codes say.
 
 use crate::compare::{compare_texts, compare_texts_of, equal, name_code, Compared};
-use crate::generate::octets::{ALWAYS, ONCE};
+use crate::generate::octets::known;
 use crate::reached::Entry;
 use crate::run::Run;
 use crate::shown;
 use crate::tables::Tables;
+use oracle::PARAM_SLOTS;
 
 pub fn compare(run: &mut Run, tables: &Tables) -> Compared<()> {
     let links = &tables.links.as_chunks().0[..tables.link_count];
@@ -17,7 +18,7 @@ pub fn compare(run: &mut Run, tables: &Tables) -> Compared<()> {
     Ok(())
 }
 
-fn compare_link(run: &mut Run, text: &[u8], params: &[[usize; 5]]) -> Compared<()> {
+fn compare_link(run: &mut Run, text: &[u8], params: &[[usize; PARAM_SLOTS]]) -> Compared<()> {
     let mut names: Vec<&[u8]> = vec![];
     for &[start, end, ..] in params {
         let name = &text[start..end];
@@ -37,7 +38,7 @@ fn compare_link(run: &mut Run, text: &[u8], params: &[[usize; 5]]) -> Compared<(
 
 /// A name is the same as the known one of its code, and as no other known one.
 fn compare_known(run: &mut Run, name: &[u8], code: usize) -> Compared<()> {
-    for (number, known) in (1..).zip(ONCE.iter().chain(ALWAYS)) {
+    for (number, known) in (1..).zip(known()) {
         let same = compare_texts(run, name, known)?;
         let asked = || format!("compare {} with name {number}", shown::octets(name));
         equal(asked, same, code == number)?;

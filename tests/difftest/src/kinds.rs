@@ -21,7 +21,7 @@ use crate::editions::read_in_each;
 use crate::generate::edition;
 use crate::run::Run;
 use crate::tables::Tables;
-use oracle::ReadAnswer;
+use oracle::{ReadAnswer, PARAM_SLOTS};
 
 /// The cases that no seed changes.
 pub fn fixed(run: &mut Run, deep: bool) -> Compared<()> {
@@ -50,7 +50,7 @@ pub fn seeded(run: &mut Run) -> Compared<()> {
 
 /// Link and parameter slots for whatever a header of this length may hold.
 fn ample(length: usize) -> [usize; 2] {
-    [4 * ((length + 1) / 3), 5 * (length / 2)]
+    [4 * ((length + 1) / 3), PARAM_SLOTS * (length / 2)]
 }
 
 /// Reads in room for whatever a header of this length may hold.

@@ -1,6 +1,6 @@
 //! Which numbers each entry answered in each edition, and how often; what became of headers in the
-//! older edition, and the forms of values; the codes of names that a link has again; and how far
-//! comparisons went.
+//! older edition, and the forms and codes of records; the codes of names that a link has again; and
+//! how far comparisons went.
 
 use crate::generate::edition::{NEWER, OLDER};
 use capstanbar::ffi::CompareAnswer;
@@ -19,6 +19,7 @@ pub enum Entry {
     Value,
     Write,
     Form,
+    Code,
     Editions,
     NameCode,
     Again,
@@ -64,7 +65,7 @@ type Allowed = &'static [RangeInclusive<usize>];
 const ALL: &[In] = &[In::Newer, In::Older, In::Unknown];
 const ANY: &[In] = &[In::Any];
 
-const ENTRIES: [(Entry, &str, &[In], Allowed); 16] = [
+const ENTRIES: [(Entry, &str, &[In], Allowed); 17] = [
     (Entry::Read, "read", ALL, &[0..=4]),
     (Entry::Feed, "feed", ALL, &[0..=2, 7..=7]),
     (Entry::Finish, "finish", ALL, &[0..=4, 7..=7]),
@@ -79,6 +80,12 @@ const ENTRIES: [(Entry, &str, &[In], Allowed); 16] = [
     ),
     (Entry::Form, "forms of values", &[In::Newer], &[0..=2]),
     (Entry::Form, "forms of values", &[In::Older], &[0..=3]),
+    (
+        Entry::Code,
+        "codes of records",
+        &[In::Newer, In::Older],
+        &[0..=LAST_CODE],
+    ),
     (
         Entry::Editions,
         "same, read, malformed as before, malformed later in the older edition",

@@ -2,6 +2,7 @@
 
 use crate::tables::Tables;
 use capstanbar::ffi::RawTable;
+use oracle::PARAM_SLOTS;
 use std::fmt::{self, Display, Formatter};
 
 /// Octets as an escaped string that can be pasted behind a `b`.
@@ -20,7 +21,7 @@ pub fn raw_table(table: RawTable) -> String {
         "text {}, link slots {}, parameter slots {}, counts {} {}",
         octets(table.text),
         slots(table.links, table.link_count.saturating_mul(4)),
-        slots(table.params, table.param_count.saturating_mul(5)),
+        slots(table.params, table.param_count.saturating_mul(PARAM_SLOTS)),
         table.link_count,
         table.param_count,
     )

@@ -2,6 +2,7 @@
 
 use crate::lent::Lent;
 use capstanbar::ffi::RawTable;
+use oracle::PARAM_SLOTS;
 
 #[derive(Clone)]
 pub struct Tables {
@@ -18,7 +19,7 @@ impl Tables {
         edition: usize,
         text: Vec<u8>,
         links: &[[usize; 4]],
-        params: &[[usize; 5]],
+        params: &[[usize; PARAM_SLOTS]],
     ) -> Tables {
         Tables {
             edition,

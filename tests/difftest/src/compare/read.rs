@@ -9,7 +9,7 @@ use crate::run::Run;
 use crate::shown;
 use crate::tables::Tables;
 use capstanbar::ffi;
-use oracle::ReadAnswer;
+use oracle::{ReadAnswer, PARAM_SLOTS};
 
 /// The answer to a header in that edition and that many slots, and the tables with all their slots.
 pub fn read(
@@ -52,7 +52,7 @@ pub fn read(
         asked,
         "parameters",
         &params,
-        &expected_params[..5 * expected.params],
+        &expected_params[..PARAM_SLOTS * expected.params],
     )?;
     equal_rooms(asked, "header", &lent, header)?;
     let tables = Tables {
@@ -83,7 +83,7 @@ pub fn read_alike(
         .count_in(In::of(edition), Entry::Read, alike.number);
     equal(asked, of_library(alike), answer)?;
     equal_rooms(asked, "links", &links, &tables.links[..4 * answer.links])?;
-    let param_slots = &tables.params[..5 * answer.params];
+    let param_slots = &tables.params[..PARAM_SLOTS * answer.params];
     equal_rooms(asked, "parameters", &params, param_slots)?;
     equal_rooms(asked, "header", &lent, &tables.text)?;
     Ok(tables.in_edition(edition))

@@ -1,6 +1,6 @@
 //! What reading or finishing should answer.
 
-use oracle::ReadAnswer;
+use oracle::{ReadAnswer, PARAM_SLOTS};
 
 /// The answer, and the slots that it fills.
 pub struct Reading {
@@ -18,7 +18,7 @@ impl Reading {
         let [mut links, mut params] = slots.map(|slots| vec![0; slots]);
         let answer = reference(&mut links, &mut params);
         links.truncate(4 * answer.links);
-        params.truncate(5 * answer.params);
+        params.truncate(PARAM_SLOTS * answer.params);
         Reading {
             answer,
             links,

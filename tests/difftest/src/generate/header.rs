@@ -3,17 +3,18 @@
 use super::case::cased;
 use super::edition::{self, OLDER};
 use super::octets::{
-    is_escapable, is_further, is_plain, is_target, is_token, ALWAYS, FURTHER, HEX, LETTERS, ONCE,
-    UNKNOWN,
+    code, is_escapable, is_further, is_plain, is_target, is_token, ALWAYS, FURTHER, HEX, LETTERS,
+    ONCE, UNKNOWN,
 };
 use crate::numbers::Numbers;
+use oracle::PARAM_SLOTS;
 
 /// A header and its records.
 #[derive(Default)]
 pub struct Derived {
     pub header: Vec<u8>,
     pub links: Vec<[usize; 4]>,
-    pub params: Vec<[usize; 5]>,
+    pub params: Vec<[usize; PARAM_SLOTS]>,
     /// Whether RFC 8288's edition doesn't derive it, also for a parameter that isn't kept.
     pub has_further: bool,
 }
@@ -132,11 +133,11 @@ impl Maker<'_> {
         self.blanks();
         let [value_start, value_end, form] = self.value(end, &name);
         let kept = !(ONCE.contains(&&name[..]) && names.contains(&name));
-        names.push(name);
         if kept {
-            let record = [start, end, value_start, value_end, form];
+            let record = [start, end, value_start, value_end, form, code(&name)];
             self.made.params.push(record);
         }
+        names.push(name);
     }
 
     fn name(&mut self) {

@@ -37,6 +37,21 @@ pub const ONCE: &[&[u8]] = &[b"rel", b"anchor", b"media", b"title", b"title*", b
 /// Known names that are kept each time.
 pub const ALWAYS: &[&[u8]] = &[b"hreflang", b"rev"];
 
+/// The known names, in the order of their codes.
+pub fn known() -> Vec<&'static [u8]> {
+    [ONCE, ALWAYS].concat()
+}
+
+/// The code of `rel`.
+pub const REL: usize = 1;
+
+/// The place of a name among the known ones in any case, counted from 1; 0 for the others.
+pub fn code(name: &[u8]) -> usize {
+    let name = name.to_ascii_lowercase();
+    let place = known().iter().position(|known| *known == name);
+    place.map_or(0, |place| place + 1)
+}
+
 /// Other names, most of them nearly a known one.
 pub const UNKNOWN: &[&[u8]] = &[
     b"re", b"relx", b"rel*", b"anchors", b"medi", b"title**", b"titl", b"typ", b"revs", b"hreflan",

@@ -2,10 +2,11 @@
 
 use super::case::cased;
 use super::edition::OLDER;
-use super::octets::{is_token, ALWAYS, ONCE, UNKNOWN};
+use super::octets::{code, is_token, ALWAYS, ONCE, UNKNOWN};
 use super::{header, spans};
 use crate::numbers::Numbers;
 use crate::tables::Tables;
+use oracle::PARAM_SLOTS;
 
 /// In which edition it is good, how many parameters each link gets, and how long spans may grow.
 pub struct Shape<'s> {
@@ -84,7 +85,12 @@ fn free_name(
     }
 }
 
-fn param(numbers: &mut Numbers, text: &[u8], name: [usize; 2], shape: &Shape) -> [usize; 5] {
+fn param(
+    numbers: &mut Numbers,
+    text: &[u8],
+    name: [usize; 2],
+    shape: &Shape,
+) -> [usize; PARAM_SLOTS] {
     let forms = if shape.edition == OLDER { 7 } else { 5 };
     let bare = match numbers.below(forms) {
         0 => Some(([name[1]; 2], 0)),
@@ -94,5 +100,6 @@ fn param(numbers: &mut Numbers, text: &[u8], name: [usize; 2], shape: &Shape) ->
     };
     let ([start, end], form) =
         bare.unwrap_or_else(|| (spans::quoted(numbers, text, shape.most), 2));
-    [name[0], name[1], start, end, form]
+    let code = code(&text[name[0]..name[1]]);
+    [name[0], name[1], start, end, form, code]
 }

@@ -1,6 +1,7 @@
 //! Tables bad in one way: each way breaks one clause of a good table and keeps the others. Beside
 //! them, ways that break none.
 
+mod codes;
 mod counts;
 mod edit;
 mod further;
@@ -24,7 +25,13 @@ const TIMES: usize = 30;
 
 pub fn compare(run: &mut Run) -> Compared<()> {
     run.begin("bad");
-    for ways in [counts::WAYS, spans::WAYS, parts::WAYS, further::WAYS] {
+    for ways in [
+        counts::WAYS,
+        spans::WAYS,
+        parts::WAYS,
+        further::WAYS,
+        codes::WAYS,
+    ] {
         compare_ways(run, ways, [5, 5])?;
     }
     run.begin("bad in one edition");

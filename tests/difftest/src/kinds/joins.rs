@@ -9,6 +9,7 @@ use crate::numbers::Numbers;
 use crate::run::Run;
 use crate::shown::{self, Difference};
 use crate::tables::Tables;
+use oracle::PARAM_SLOTS;
 
 /// In each edition.
 const CASES: usize = 500;
@@ -70,7 +71,7 @@ struct Join {
     headers: usize,
     octets: Vec<u8>,
     links: Vec<[usize; 4]>,
-    params: Vec<[usize; 5]>,
+    params: Vec<[usize; PARAM_SLOTS]>,
 }
 
 impl Join {
@@ -98,8 +99,8 @@ impl Join {
             let link = [start + raised, end + raised, first + former, count];
             self.links.push(link);
         }
-        for &[a, b, c, d, form] in &alone.params.as_chunks().0[..answer.params] {
-            let param = [a + raised, b + raised, c + raised, d + raised, form];
+        for &[a, b, c, d, form, code] in &alone.params.as_chunks().0[..answer.params] {
+            let param = [a + raised, b + raised, c + raised, d + raised, form, code];
             self.params.push(param);
         }
         self.octets.extend(header);

@@ -6,7 +6,7 @@ mod long;
 mod within;
 
 use crate::compare::{name_code, Compared};
-use crate::generate::octets::{ALWAYS, ONCE};
+use crate::generate::octets::known;
 use crate::run::Run;
 
 /// The cases that no seed changes.
@@ -20,11 +20,6 @@ pub fn fixed(run: &mut Run) -> Compared<()> {
 /// The cases of a seed.
 pub fn seeded(run: &mut Run) -> Compared<()> {
     any::compare(run)
-}
-
-/// The known names.
-fn known() -> Vec<&'static [u8]> {
-    [ONCE, ALWAYS].concat()
 }
 
 fn ask(run: &mut Run, name: &[u8]) -> Compared<()> {

@@ -9,6 +9,7 @@ use crate::generate::table::{table, Shape};
 use crate::numbers::Numbers;
 use crate::run::Run;
 use crate::tables::Tables;
+use oracle::PARAM_SLOTS;
 
 const CASES: usize = 12000;
 
@@ -53,7 +54,7 @@ fn change(numbers: &mut Numbers, tables: &mut Tables) {
     let params = tables
         .params
         .len()
-        .min(tables.param_count.saturating_mul(5));
+        .min(tables.param_count.saturating_mul(PARAM_SLOTS));
     match numbers.below(8) {
         0 => tables.link_count = near(numbers, tables.link_count),
         1 => tables.param_count = near(numbers, tables.param_count),

@@ -1,7 +1,7 @@
 //! The form of bare values with an octet outside a token, over spans that it isn't for; and over those
 //! that it is for, which are bad in RFC 8288's edition alone.
 
-use super::edit::{append, set_value, Span};
+use super::edit::{append, name_end, set_value, Span};
 use super::parts::{other, round};
 use super::Way;
 use crate::generate::octets::{is_further, is_token, FURTHER};
@@ -27,8 +27,8 @@ pub const WAYS: &[(&str, Way)] = &[
         "form 3 of no octets at the name's end",
         |numbers, tables| {
             let param = numbers.below(6);
-            let name_end = tables.params[5 * param + 1];
-            set_value(tables, param, [name_end; 2], 3);
+            let end = name_end(tables, param);
+            set_value(tables, param, [end; 2], 3);
         },
     ),
     ("form 3 with a wrong octet", |numbers, tables| {

@@ -2,6 +2,8 @@
 
 use super::edit::{append, set_name, set_no_value, set_target, set_value};
 use super::Way;
+use crate::generate::case::cased;
+use crate::generate::octets::known;
 use crate::numbers::Numbers;
 use crate::tables::Tables;
 
@@ -65,6 +67,14 @@ pub const WAYS: &[(&str, Way)] = &[
             set_value(tables, numbers.below(6), span, 2);
         },
     ),
+    ("known names in any case", |numbers, tables| {
+        let mut known = known();
+        let first = numbers.below(known.len());
+        known.rotate_left(first);
+        for (param, name) in (0..6).zip(known) {
+            names_of(tables, &[param], &cased(numbers, name));
+        }
+    }),
     ("`hreflang` again", |_, tables| {
         names(tables, [b"hreflang", b"HREFLANG", b"Hreflang"])
     }),

@@ -1,6 +1,6 @@
 //! Forms that there aren't, spans that aren't in the text, and values where there is none.
 
-use super::edit::{append, set_name, set_no_value, set_target, set_value, Span};
+use super::edit::{append, set_form, set_name, set_no_value, set_target, set_value, Span};
 use super::Way;
 use crate::numbers::Numbers;
 use crate::tables::Tables;
@@ -8,13 +8,13 @@ use crate::tables::Tables;
 const MAX: usize = usize::MAX;
 
 pub const WAYS: &[(&str, Way)] = &[
-    ("form 4", |numbers, tables| set_form(numbers, tables, 4)),
-    ("form 258", |numbers, tables| set_form(numbers, tables, 258)),
+    ("form 4", |numbers, tables| form(numbers, tables, 4)),
+    ("form 258", |numbers, tables| form(numbers, tables, 258)),
     ("form 2 past 32 bits", |numbers, tables| {
-        set_form(numbers, tables, (1 << 32) + 2)
+        form(numbers, tables, (1 << 32) + 2)
     }),
     ("the largest form", |numbers, tables| {
-        set_form(numbers, tables, MAX)
+        form(numbers, tables, MAX)
     }),
     ("a target that ends past the text", |numbers, tables| {
         let [start, end] = append(tables, b"a");
@@ -101,8 +101,8 @@ pub const WAYS: &[(&str, Way)] = &[
     }),
 ];
 
-fn set_form(numbers: &mut Numbers, tables: &mut Tables, form: usize) {
-    tables.params[5 * numbers.below(6) + 4] = form;
+fn form(numbers: &mut Numbers, tables: &mut Tables, form: usize) {
+    set_form(tables, numbers.below(6), form);
 }
 
 fn target(numbers: &mut Numbers, tables: &mut Tables, span: Span) {

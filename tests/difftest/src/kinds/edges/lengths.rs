@@ -3,6 +3,7 @@
 use crate::ask::ask_in_each;
 use crate::compare::{Asked, Compared};
 use crate::generate::edition::OLDER;
+use crate::generate::octets::REL;
 use crate::kinds::read_and_ask;
 use crate::run::Run;
 use crate::shown::{self, Difference};
@@ -50,8 +51,8 @@ fn texts(run: &mut Run) -> Compared<()> {
     for length in LENGTHS {
         let text = [b"rel", &vec![b'a'; length - 3][..]].concat();
         let params = [
-            [0, 3, length - 9, length, 1],
-            [length - 1, length, length, length, 0],
+            [0, 3, length - 9, length, 1, REL],
+            [length - 1, length, length, length, 0, 0],
         ];
         let good = Tables::new(0, text, &[[3, length, 0, 2]], &params);
         run.case();
@@ -99,7 +100,7 @@ pub fn form_of(links: usize, length: usize) -> Tables {
     let rest = (length + 2) % links;
     let text = [b"rel", &b"r".repeat(target.max(rest + 1))[..]].concat();
     let link_records: Vec<_> = (0..links).map(|link| [3, 3 + target, link, 1]).collect();
-    let mut params = vec![[0, 3, 3, 4, 1]; links];
+    let mut params = vec![[0, 3, 3, 4, 1, REL]; links];
     params[links - 1][3] += rest;
     Tables::new(0, text, &link_records, &params)
 }
@@ -109,5 +110,5 @@ fn quoted_form_of(length: usize) -> Tables {
     const ROUND: usize = b"<>; rel=\"/\"".len();
     let text = [b"rel/", &b"r".repeat(length - ROUND)[..]].concat();
     let link = [4, text.len(), 0, 1];
-    Tables::new(OLDER, text, &[link], &[[0, 3, 3, 4, 3]])
+    Tables::new(OLDER, text, &[link], &[[0, 3, 3, 4, 3, REL]])
 }

@@ -3,9 +3,11 @@
 use super::lengths::form_of;
 use crate::compare::{read, Asked, Compared};
 use crate::generate::edition::{unknown, EDITIONS};
+use crate::generate::octets::REL;
 use crate::run::Run;
 use crate::shown::{self, Difference};
 use crate::tables::Tables;
+use oracle::PARAM_SLOTS;
 
 /// In so many unknown editions each table is asked.
 const UNKNOWN: usize = 20;
@@ -22,9 +24,9 @@ fn read_orders(run: &mut Run) -> Compared<()> {
         (&long[..], 0, 0, 1),
         (b"<a>;x;", 0, 0, 2),
         (b"<a>;x", 0, 0, 3),
-        (b"<a>;x", 3, 4, 3),
-        (b"<a>;x", 4, 4, 4),
-        (b"<a>;x", 4, 5, 0),
+        (b"<a>;x", 3, PARAM_SLOTS - 1, 3),
+        (b"<a>;x", 4, PARAM_SLOTS - 1, 4),
+        (b"<a>;x", 4, PARAM_SLOTS, 0),
     ] {
         let unknown = unknown(&mut run.numbers);
         for (edition, number) in [(0, number), (1, number), (unknown, 10)] {
@@ -95,24 +97,36 @@ fn expect(run: &mut Run, tables: &Tables, expected: Answers) -> Compared<()> {
     })
 }
 
+/// Of the first parameter's `rel` only `re` is left.
+fn rename(tables: &mut Tables) {
+    tables.params[1] = 2;
+    tables.params[5] = 0;
+}
+
 /// An unknown edition before everything; then, of any two things that are wrong with a table or a call, the one that is asked first.
 fn table_orders(run: &mut Run) -> Compared<()> {
-    let good = Tables::new(0, b"rel".to_vec(), &[[0, 3, 0, 1]], &[[0, 3, 0, 1, 1]]);
+    let good = Tables::new(0, b"rel".to_vec(), &[[0, 3, 0, 1]], &[[0, 3, 0, 1, 1, REL]]);
     let mut bad = good.clone();
     bad.params[4] = 3;
+    let mut bad_code = good.clone();
+    bad_code.params[5] = 0;
     let mut bad_and_long = bad.clone();
     bad_and_long.text.resize(8193, b'a');
     let mut long_form = form_of(2, 9000);
     let mut no_relation_and_long_form = long_form.clone();
-    no_relation_and_long_form.params[1] = 2;
+    rename(&mut no_relation_and_long_form);
     let mut no_relation = good.clone();
-    no_relation.params[1] = 2;
+    rename(&mut no_relation);
+    let mut bad_code_and_no_relation = no_relation.clone();
+    bad_code_and_no_relation.params[5] = REL;
     let mut bad_and_no_relation = no_relation.clone();
     bad_and_no_relation.links[3] = 2;
     long_form.links.extend([7; 3]);
     for (tables, expected) in [
         (good, GOOD),
         (bad, refused(5)),
+        (bad_code, refused(5)),
+        (bad_code_and_no_relation, refused(5)),
         (bad_and_long, refused(1)),
         (bad_and_no_relation, refused(5)),
         (no_relation, Answers { write: 6, ..GOOD }),

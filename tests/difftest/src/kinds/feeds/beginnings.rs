@@ -6,7 +6,7 @@ use crate::compare::{Compared, Expected, Fed, Reading};
 use crate::kinds::ample;
 use crate::run::Run;
 use oracle::number::LIMIT;
-use oracle::Feeding;
+use oracle::{Feeding, PARAM_SLOTS};
 use std::collections::BTreeMap;
 
 /// What all calls with a buffer that is too small answer.
@@ -72,12 +72,12 @@ impl Beginnings {
         for (&end, room) in ends.iter().zip(SMALL.into_iter().cycle()) {
             fed.feed(run, &self.octets[start..end], room, NO_ROOM)?;
             fed.feed(run, b"\n", room, NO_ROOM)?;
-            fed.finish(run, room, [4, 5], &refused)?;
+            fed.finish(run, room, [4, PARAM_SLOTS], &refused)?;
             self.feed_one(run, fed, start, end)?;
             start = end;
         }
         fed.feed(run, b"", SMALL[2], NO_ROOM)?;
-        fed.finish(run, SMALL[2], [4, 5], &refused)?;
+        fed.finish(run, SMALL[2], [4, PARAM_SLOTS], &refused)?;
         let slots = ample(start.min(LIMIT));
         fed.finish(run, LIMIT, slots, self.finish(start, slots))
     }

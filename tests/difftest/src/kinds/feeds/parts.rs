@@ -12,6 +12,7 @@ use crate::kinds::rooms::round;
 use crate::numbers::Numbers;
 use crate::run::Run;
 use oracle::number::LIMIT;
+use oracle::PARAM_SLOTS;
 
 const CASES: usize = 600;
 
@@ -65,8 +66,8 @@ fn disturb(run: &mut Run, both: &mut Both) -> Compared<()> {
             let part = vec![run.numbers.octet(); run.numbers.small(9000)];
             both.feed_in(run, &part, room)
         }
-        2 => both.finish_in(run, room, [8, 10]).map(drop),
-        _ => both.finish(run, [4, 5]).map(drop),
+        2 => both.finish_in(run, room, [8, 2 * PARAM_SLOTS]).map(drop),
+        _ => both.finish(run, [4, PARAM_SLOTS]).map(drop),
     }
 }
 
@@ -76,7 +77,7 @@ fn finish_rooms(run: &mut Run, both: &Both, length: usize) -> Compared<()> {
     let (links, params) = (reading.links.len(), reading.params.len());
     both.finish(run, [links, params])?;
     let link_slots = run.numbers.of(&round(links, 4));
-    let param_slots = run.numbers.of(&round(params, 5));
+    let param_slots = run.numbers.of(&round(params, PARAM_SLOTS));
     both.finish(run, [link_slots, param_slots]).map(drop)
 }
 

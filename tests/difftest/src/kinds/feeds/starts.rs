@@ -7,6 +7,7 @@ use crate::generate::edition::EDITIONS;
 use crate::run::Run;
 use capstanbar::ffi::{self, FeedingState};
 use oracle::number::LIMIT;
+use oracle::PARAM_SLOTS;
 
 /// Some are known ones in 8, 16 or 32 bits.
 const UNKNOWN: [usize; 9] = [
@@ -45,7 +46,7 @@ fn refused(run: &mut Run, edition: usize, part: &[u8]) -> Compared<()> {
     let mut both = Both::new(run, edition, LIMIT);
     for room in SMALL.into_iter().chain([LIMIT]) {
         both.feed_in(run, part, room)?;
-        for slots in [[0, 0], [4, 0], [4, 5]] {
+        for slots in [[0, 0], [4, 0], [4, PARAM_SLOTS]] {
             both.finish_in(run, room, slots)?;
         }
     }
