@@ -95,7 +95,7 @@ static capstan_read_answer finish(feeding *f, size_t buffer_len, size_t link_slo
   MUST((a.number == 7) == (known(f->state.edition) && buffer_len < LIMIT));
   MUST(a.number == 2 || a.place == 0);
   MUST(a.number == 0 || (a.links == 0 && a.params == 0));
-  size_t link_used = 4 * a.links, param_used = 5 * a.params;
+  size_t link_used = 4 * a.links, param_used = CAPSTAN_PARAM_SLOTS * a.params;
   MUST(link_used <= link_slots && param_used <= param_slots);
   MUST(still_held(links + link_used, (link_slots - link_used) * sizeof(size_t)));
   MUST(still_held(params + param_used, (param_slots - param_used) * sizeof(size_t)));
@@ -110,19 +110,19 @@ static void give_tables_back(void) {
 
 /* The finish answers and fills what reading the octets so far does, in just that room; one slot fewer is too few. */
 static void finish_law(feeding *f, const uint8_t *header, size_t length) {
-  static size_t links[4 * LINKS], params[5 * PARAMS];
-  capstan_read_answer r = capstan_read(f->state.edition, header, length, links, 4 * LINKS, params, 5 * PARAMS);
-  capstan_read_answer a = finish(f, f->buffer_len, 4 * r.links, 5 * r.params);
+  static size_t links[4 * LINKS], params[CAPSTAN_PARAM_SLOTS * PARAMS];
+  capstan_read_answer r = capstan_read(f->state.edition, header, length, links, 4 * LINKS, params, CAPSTAN_PARAM_SLOTS * PARAMS);
+  capstan_read_answer a = finish(f, f->buffer_len, 4 * r.links, CAPSTAN_PARAM_SLOTS * r.params);
   MUST(a.number == r.number && a.place == r.place && a.links == r.links && a.params == r.params);
   MUST(memcmp(link_room.start, links, 4 * a.links * sizeof(size_t)) == 0);
-  MUST(memcmp(param_room.start, params, 5 * a.params * sizeof(size_t)) == 0);
+  MUST(memcmp(param_room.start, params, CAPSTAN_PARAM_SLOTS * a.params * sizeof(size_t)) == 0);
   give_tables_back();
   if (r.links > 0) {
-    MUST(finish(f, f->buffer_len, 4 * r.links - 1, 5 * r.params).number == 3);
+    MUST(finish(f, f->buffer_len, 4 * r.links - 1, CAPSTAN_PARAM_SLOTS * r.params).number == 3);
     give_tables_back();
   }
   if (r.params > 0) {
-    MUST(finish(f, f->buffer_len, 4 * r.links + 3, 5 * r.params - 1).number == 4);
+    MUST(finish(f, f->buffer_len, 4 * r.links + 3, CAPSTAN_PARAM_SLOTS * r.params - 1).number == 4);
     give_tables_back();
   }
 }
@@ -132,7 +132,7 @@ static void no_room_law(feeding *f, const uint8_t *part, size_t length, size_t s
   static const size_t rooms[] = {0, 1, LIMIT / 2, LIMIT - 1};
   size_t buffer_len = rooms[small % 4];
   feed(f, part, length, buffer_len);
-  finish(f, buffer_len, 4, 5);
+  finish(f, buffer_len, 4, CAPSTAN_PARAM_SLOTS);
   give_tables_back();
 }
 
@@ -186,7 +186,7 @@ static void wild_law(feeding *f, octets how, const uint8_t *header, size_t lengt
       memcpy(f->model + total, header + length - part, part);
     }
     MUST(memcmp(f->buffer, f->model, f->buffer_len) == 0);
-    capstan_read_answer r = finish(f, buffer_len, 4 * (part % 8), 5 * (part % 8));
+    capstan_read_answer r = finish(f, buffer_len, 4 * (part % 8), CAPSTAN_PARAM_SLOTS * (part % 8));
     give_tables_back();
     seen(2, 16 * (f->state.phase % 32) + r.number);
   }
@@ -221,7 +221,7 @@ int LLVMFuzzerInitialize(int *argc, char ***argv) {
   part_room.end = lent_end(2 * LIMIT);
   buffer_room.end = lent_end(MOST);
   link_room.end = lent_end(4 * LINKS * sizeof(size_t));
-  param_room.end = lent_end(5 * PARAMS * sizeof(size_t));
+  param_room.end = lent_end(CAPSTAN_PARAM_SLOTS * PARAMS * sizeof(size_t));
   return 0;
 }
 

@@ -25,7 +25,7 @@ static uint8_t *text_end, *link_end, *param_end, *out_end, *name_end, *other_end
 
 /* Reads in so many slots and looks at everything lent. The text is lent anew, so there is one reading at a time. */
 static reading read_in(const uint8_t *header, size_t length, size_t links, size_t params) {
-  reading r = {.length = length, .link_slots = 4 * links, .param_slots = 5 * params};
+  reading r = {.length = length, .link_slots = 4 * links, .param_slots = CAPSTAN_PARAM_SLOTS * params};
   r.text = memmove(text_end - length, header, length);
   r.links = held(link_end, r.link_slots * sizeof(size_t));
   r.params = held(param_end, r.param_slots * sizeof(size_t));
@@ -34,7 +34,7 @@ static reading read_in(const uint8_t *header, size_t length, size_t links, size_
   MUST(r.answer.number == 2 || r.answer.place == 0);
   MUST(r.answer.number == 0 || (r.answer.links == 0 && r.answer.params == 0));
   MUST(r.answer.links <= links && r.answer.params <= params);
-  size_t link_used = 4 * r.answer.links, param_used = 5 * r.answer.params;
+  size_t link_used = 4 * r.answer.links, param_used = CAPSTAN_PARAM_SLOTS * r.answer.params;
   MUST(still_held(r.links + link_used, (r.link_slots - link_used) * sizeof(size_t)));
   MUST(still_held(r.params + param_used, (r.param_slots - param_used) * sizeof(size_t)));
   return r;
@@ -119,7 +119,7 @@ static void write_law(reading r) {
 static void value_law(reading r) {
   for (size_t link = 0; link < r.answer.links; link++) {
     for (size_t place = 0; place < r.links[4 * link + 3]; place++) {
-      size_t *param = r.params + 5 * (r.links[4 * link + 2] + place), room = param[3] - param[2];
+      size_t *param = r.params + CAPSTAN_PARAM_SLOTS * (r.links[4 * link + 2] + place), room = param[3] - param[2];
       uint8_t *out = held(out_end, room);
       capstan_length_answer v = capstan_value(edition, r.text, r.length, r.links, r.link_slots, r.params, r.param_slots,
                                               r.answer.links, r.answer.params, link, place, out, room);
@@ -195,13 +195,14 @@ static void flipped_law(const uint8_t *name, size_t length) {
   code_of(flipped, length);
 }
 
-/* Of each code that is kept once a link has one parameter at most. Whether each `hreflang` and `rev` was kept can't be seen here; the
-   differential test compares that. */
+/* A record has the code of its name. Of each code that is kept once a link has one parameter at most. Whether each `hreflang` and `rev`
+   was kept can't be seen here; the differential test compares that. */
 static void code_law(reading r) {
   for (size_t link = 0; link < r.answer.links; link++) {
-    size_t had[NAMES + 1] = {0}, *param = r.params + 5 * r.links[4 * link + 2];
-    for (size_t place = 0; place < r.links[4 * link + 3]; place++, param += 5) {
+    size_t had[NAMES + 1] = {0}, *param = r.params + CAPSTAN_PARAM_SLOTS * r.links[4 * link + 2];
+    for (size_t place = 0; place < r.links[4 * link + 3]; place++, param += CAPSTAN_PARAM_SLOTS) {
       size_t code = code_of(r.text + param[0], param[1] - param[0]);
+      MUST(param[5] == code);
       MUST(++had[code] == 1 || code == 0 || code > LAST_ONCE);
       if (code > 0) seen(4, 16 * code + (had[code] < 16 ? had[code] : 15));
       flipped_law(r.text + param[0], param[1] - param[0]);
@@ -218,6 +219,16 @@ static size_t judged(size_t in, reading r) {
   return s.number;
 }
 
+/* With another code in one of its records the table is bad. */
+static void spoilt_code_law(reading r) {
+  for (size_t i = 0; i < r.answer.params; i++) {
+    size_t *code = r.params + CAPSTAN_PARAM_SLOTS * i + 5, right = *code;
+    *code = i % 8 == 7 ? SIZE_MAX - i : (right + 1 + (r.length + i) % (NAMES + 1)) % (NAMES + 2);
+    MUST(judged(CAPSTAN_RFC8288, r) == CAPSTAN_BAD_TABLE && judged(CAPSTAN_RFC5988, r) == CAPSTAN_BAD_TABLE);
+    *code = right;
+  }
+}
+
 /* How many octets of a value are outside a token. */
 static size_t outside(const uint8_t *octet, const uint8_t *end) {
   size_t count = 0;
@@ -230,8 +241,8 @@ static size_t outside(const uint8_t *octet, const uint8_t *end) {
    table is bad; without any 3 it is good in each edition. */
 static void form_law(reading r) {
   size_t wider = 0;
-  for (size_t *param = r.params, *end = r.params + 5 * r.answer.params; param < end; param += 5) {
-    size_t form = param[4];
+  for (size_t i = 0; i < r.answer.params; i++) {
+    size_t *param = r.params + CAPSTAN_PARAM_SLOTS * i, form = param[4];
     MUST(form <= 3);
     if (form == CAPSTAN_TOKEN || form == CAPSTAN_WIDER) {
       size_t count = outside(r.text + param[2], r.text + param[3]);
@@ -250,12 +261,12 @@ static void form_law(reading r) {
 
 /* The older edition answers as RFC 8288's does, unless the header is malformed there; then it goes as far, or farther. */
 static void edition_law(const uint8_t *header, size_t length) {
-  static size_t links[4 * LINKS], params[5 * PARAMS];
+  static size_t links[4 * LINKS], params[CAPSTAN_PARAM_SLOTS * PARAMS];
   edition = CAPSTAN_RFC8288;
   reading newer = read_amply(header, length);
   capstan_read_answer n = newer.answer;
   memcpy(links, newer.links, 4 * n.links * sizeof(size_t));
-  memcpy(params, newer.params, 5 * n.params * sizeof(size_t));
+  memcpy(params, newer.params, CAPSTAN_PARAM_SLOTS * n.params * sizeof(size_t));
   edition = CAPSTAN_RFC5988;
   reading older = read_amply(header, length);
   capstan_read_answer o = older.answer;
@@ -265,7 +276,7 @@ static void edition_law(const uint8_t *header, size_t length) {
   }
   MUST(o.number == n.number && o.place == n.place && o.links == n.links && o.params == n.params);
   MUST(memcmp(links, older.links, 4 * n.links * sizeof(size_t)) == 0);
-  MUST(memcmp(params, older.params, 5 * n.params * sizeof(size_t)) == 0);
+  MUST(memcmp(params, older.params, CAPSTAN_PARAM_SLOTS * n.params * sizeof(size_t)) == 0);
 }
 
 /* In no other edition is anything answered but 10, whatever the header and the tables. */
@@ -296,7 +307,7 @@ int LLVMFuzzerInitialize(int *argc, char ***argv) {
   (void)argc, (void)argv;
   text_end = lent_end(2 * LIMIT);
   link_end = lent_end(4 * LINKS * sizeof(size_t));
-  param_end = lent_end(5 * PARAMS * sizeof(size_t));
+  param_end = lent_end(CAPSTAN_PARAM_SLOTS * PARAMS * sizeof(size_t));
   out_end = lent_end(LIMIT);
   name_end = lent_end(2 * LIMIT);
   other_end = lent_end(2 * LIMIT);
@@ -316,7 +327,10 @@ static void header_laws(const uint8_t *header, size_t length) {
     room_law(header, length, a);
     join_law(header, length, a);
     reading r = read_amply(header, length);
-    if (a.params <= 64) value_law(r);
+    if (a.params <= 64) {
+      value_law(r);
+      spoilt_code_law(r);
+    }
     code_law(r);
     form_law(r);
     write_law(r);
