@@ -5,6 +5,7 @@ use crate::figures::{figures, Figures};
 use crate::headers::{samples, to_read, Sample};
 use crate::library::{Table, EDITION, LIMIT};
 use crate::{comparing, contenders, independent, library};
+use capstanbar::Name;
 use std::hint::black_box;
 use std::slice::from_ref;
 
@@ -43,7 +44,9 @@ fn shared_spans() -> Table {
     let (mut links, mut params) = (vec![], vec![]);
     for number in 0..60 {
         links.extend([0, 16, 2 * number, 2]);
-        params.extend([17, 20, 21, 25, 1, 26, 31, 32, text.len(), 2]);
+        let rel = [17, 20, 21, 25, 1, Name::Rel.code()];
+        let title = [26, 31, 32, text.len(), 2, Name::Title.code()];
+        params.extend([rel, title].concat());
     }
     Table {
         text,

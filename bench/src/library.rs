@@ -9,8 +9,8 @@ pub const LIMIT: usize = capstanbar::LIMIT;
 /// What is measured is read and asked in this edition, but for the table of editions.
 pub const EDITION: usize = Edition::Rfc8288.number();
 
-const LINK_SLOTS: usize = 4 * 256;
-const PARAM_SLOTS: usize = 5 * 1024;
+const LINK_SLOTS: usize = capstanbar::LINK_SLOTS * 256;
+const PARAM_SLOTS: usize = capstanbar::PARAM_SLOTS * 1024;
 
 /// Slots for links and for parameters, enough for each header here.
 pub fn slots() -> (Vec<usize>, Vec<usize>) {
