@@ -26,6 +26,7 @@ pub fn samples() -> Vec<Sample> {
         sample("60 links", sixty_links(), (59, 1)),
         sample("quoted and escaped", escaped(), (3, 1)),
         sample("many parameters", many_params(), (1, 3)),
+        sample("rel last", rel_last(), (19, 3)),
     ]
 }
 
@@ -81,6 +82,17 @@ fn escaped() -> Vec<u8> {
 fn many_params() -> Vec<u8> {
     let params = ";a=1;rev=x;title=t;c;hreflang=en;type=\"a\";b2=\"\";media=m".repeat(10);
     format!("<a>;rel=next{params},<b>;rel=last{params}").into_bytes()
+}
+
+/// 20 links whose `rel` stands behind all their other parameters, most of which have names as long as a known one. None has an `anchor`.
+fn rel_last() -> Vec<u8> {
+    let link = |number| {
+        let relation = if number < 20 { "preload" } else { "last" };
+        let params = "as=style; nonce=n; media=screen; type=text; title=t; hreflang=en; rev=x";
+        format!("</styles/{number}>; {params}; rel={relation}")
+    };
+    let links: Vec<String> = (1..=20).map(link).collect();
+    links.join(", ").into_bytes()
 }
 
 /// Links, the last of which is broken off in its value.
