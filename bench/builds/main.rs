@@ -12,8 +12,11 @@ use std::time::{Duration, Instant};
 pub struct Copy {
     pub name: &'static str,
     pub takes_edition: bool,
+    /// How many numbers its parameter records have.
+    pub param_slots: usize,
     pub read: *const (),
     pub search: *const (),
+    pub context: *const (),
     pub write: *const (),
 }
 
@@ -24,6 +27,15 @@ struct ReadAnswer {
     place: usize,
     links: usize,
     params: usize,
+}
+
+#[repr(C)]
+#[derive(Clone, Debug, PartialEq)]
+struct ContextAnswer {
+    number: usize,
+    source: usize,
+    start: usize,
+    end: usize,
 }
 
 #[repr(C)]
@@ -59,10 +71,10 @@ struct Tables {
 }
 
 impl Tables {
-    fn new() -> Tables {
+    fn new(copy: &Copy) -> Tables {
         Tables {
             links: vec![0; 4 * 256],
-            params: vec![0; 5 * 1024],
+            params: vec![0; copy.param_slots * 1024],
         }
     }
 }
@@ -94,6 +106,24 @@ fn search(copy: &Copy, text: &[u8], t: &Tables, a: &ReadAnswer) -> TwoAnswer {
     ) -> TwoAnswer)
 }
 
+/// The context of the last link.
+fn context(copy: &Copy, text: &[u8], t: &Tables, a: &ReadAnswer) -> ContextAnswer {
+    let base = b"https://example.org/";
+    call!(copy.context(
+        black_box(text.as_ptr()) => *const u8,
+        text.len() => usize,
+        base.as_ptr() => *const u8,
+        base.len() => usize,
+        t.links.as_ptr() => *const usize,
+        t.links.len() => usize,
+        t.params.as_ptr() => *const usize,
+        t.params.len() => usize,
+        a.links => usize,
+        a.params => usize,
+        a.links - 1 => usize,
+    ) -> ContextAnswer)
+}
+
 fn write(copy: &Copy, text: &[u8], t: &Tables, a: &ReadAnswer, out: &mut [u8]) -> TwoAnswer {
     call!(copy.write(
         black_box(text.as_ptr()) => *const u8,
@@ -109,18 +139,30 @@ fn write(copy: &Copy, text: &[u8], t: &Tables, a: &ReadAnswer, out: &mut [u8]) -
     ) -> TwoAnswer)
 }
 
-/// All that a copy answers to a header.
+/// The copies of all archives.
+fn all() -> impl Iterator<Item = &'static Copy> {
+    COPIES.iter().flat_map(|copies| copies.iter())
+}
+
+/// All that a copy answers to a header, with as many numbers of a parameter record as each copy has.
 fn answers(copy: &Copy, header: &[u8]) -> impl PartialEq + std::fmt::Debug {
-    let mut t = Tables::new();
+    let shared = all().map(|copy| copy.param_slots).min().unwrap_or(0);
+    let mut t = Tables::new(copy);
     let mut out = vec![0; 8192];
     let read = read(copy, header, &mut t);
     let asked = (read.number == 0).then(|| {
         (
             search(copy, header, &t, &read),
+            context(copy, header, &t, &read),
             write(copy, header, &t, &read, &mut out),
         )
     });
-    (read, t.links, t.params, asked, out)
+    let records = t.params.chunks(copy.param_slots);
+    let params: Vec<usize> = records
+        .flat_map(|record| &record[..shared])
+        .copied()
+        .collect();
+    (read, t.links, params, asked, out)
 }
 
 /// The least ns of a call of each; they take turns, each time another one first.
@@ -150,8 +192,8 @@ fn least(calls: &mut [Box<dyn FnMut() + '_>], rounds: usize) -> Vec<f64> {
 
 fn calls<'a>(entry: &str, texts: &'a [Vec<u8>]) -> Vec<Box<dyn FnMut() + 'a>> {
     let mut calls: Vec<Box<dyn FnMut() + 'a>> = vec![];
-    for copy in COPIES.iter().flat_map(|copies| copies.iter()) {
-        let mut t = Tables::new();
+    for copy in all() {
+        let mut t = Tables::new(copy);
         let first = &texts[0];
         match entry {
             "read" => calls.push(Box::new(move || {
@@ -163,6 +205,12 @@ fn calls<'a>(entry: &str, texts: &'a [Vec<u8>]) -> Vec<Box<dyn FnMut() + 'a>> {
                 let a = read(copy, first, &mut t);
                 calls.push(Box::new(move || {
                     drop(black_box(search(copy, first, &t, &a)))
+                }))
+            }
+            "context" => {
+                let a = read(copy, first, &mut t);
+                calls.push(Box::new(move || {
+                    drop(black_box(context(copy, first, &t, &a)))
                 }))
             }
             "write" => {
@@ -200,10 +248,11 @@ fn main() {
             .map(|copy| format!("{:#x}", copy.read as usize))
             .collect();
         println!("   capstan_read at {}", bases.join(" "));
+        println!("   parameter records of {}", copies[0].param_slots);
     }
     let shifts: Vec<String> = LAYOUTS.iter().map(|shift| format!("+{shift:<6}")).collect();
     println!(
-        "\n     {:<7}{:<34}{:>9}  {}{}",
+        "\n     {:<8}{:<34}{:>9}  {}{}",
         "entry",
         "header",
         "before ns",
@@ -226,7 +275,7 @@ fn main() {
 fn line(entry: &str, name: &str, texts: &[Vec<u8>], rounds: usize) {
     for text in texts {
         let expected = answers(&COPIES[0][0], text);
-        for copy in COPIES.iter().flat_map(|copies| copies.iter()) {
+        for copy in all() {
             assert!(
                 answers(copy, text) == expected,
                 "{}: {name} differs",
@@ -253,7 +302,7 @@ fn line(entry: &str, name: &str, texts: &[Vec<u8>], rounds: usize) {
             slowest / smallest(before),
         );
         println!(
-            "{number}/0  {entry:<7}{name:<34}{each:>9.1}  {}{mean:<8.3}{best:<13.3}{alone:.3}",
+            "{number}/0  {entry:<8}{name:<34}{each:>9.1}  {}{mean:<8.3}{best:<13.3}{alone:.3}",
             shown.join("")
         );
     }
