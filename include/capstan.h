@@ -20,7 +20,7 @@
  * parameters. A parameter record is CAPSTAN_PARAM_SLOTS numbers: name start, name end, value start, value end, form, code. Places are
  * octets of the text, counted from 0, and an end is one past the last octet. Form 0 is no value, whose places both are the name's end,
  * 1 a token, 2 a quoted string, whose span lies inside the quotes with its backslashes still there, and 3 a bare value that is no token.
- * The code is what capstan_name_code answers of the name, so a parameter of a known name is found without looking at its octets. The
+ * The code is what capstan_name_code answers of the name, so a known name is found without a look at its octets. The
  * room is the count of slots divided by CAPSTAN_LINK_SLOTS or by CAPSTAN_PARAM_SLOTS, rounded down. No header has more than 2,731 links,
  * nor more than 4,095 parameters.
  *

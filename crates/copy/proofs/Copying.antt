@@ -30,7 +30,7 @@ module _ {t : Table} (u : Usable Rfc5988 t) {i j : ℕ} (l : i < t .linkCount) {
   pub in-room : j < r .count → r .first .0 + j < paramRoom (t .paramSlots)
   in-room h = omega (arith, is .first, is .count, params-slots (u .good) l)
 
--- the record p is that parameter's
+-- p are that parameter's parts
 pub record AtIndex (t : Table) (i j : ℕ) (p : ParamParts) : Type 0 where
   pub usable : Usable Rfc5988 t
   pub is-link : i < t .linkCount

@@ -102,13 +102,17 @@ module _ (extra : Extra) (apart : Admissible extra) where
   joinedKept k (a ∷ hs) =
       map (raiseLink (k + length (a .pad .left))) (a .reading) ++ joinedKept (k + length (padded (a .pad)) + 1) hs
 
-  kept-one : (w u v : List ℕ) (a : Readable extra) (k : ℕ) → w ≡ u ++ a .pad .left ++ (a .pad .header ++ v) → length u ≡ k
-      → map (keptLink w) (map (raiseLink (k + length (a .pad .left))) (a .reads .links))
-      ≡ map (raiseLink (k + length (a .pad .left))) (a .reading)
-  kept-one w u v a k e h =
+  -- one header's links in the join's text w: what is kept of them, and their records
+  one-raised : (w u v : List ℕ) (a : Readable extra) (k : ℕ) → w ≡ u ++ a .pad .left ++ (a .pad .header ++ v) → length u ≡ k
+      → (map (keptLink w) (map (raiseLink (k + length (a .pad .left))) (a .reads .links))
+      ≡ map (raiseLink (k + length (a .pad .left))) (a .reading))
+      × (paramRecords w (map (raiseLink (k + length (a .pad .left))) (a .reading))
+      ≡ raiseParams (k + length (a .pad .left)) (paramRecords (a .pad .header) (a .reading)))
+  one-raised w u v a k e h =
       let n : k + length (a .pad .left) ≡ length (u ++ a .pad .left) = omega (arith, length-append u (a .pad .left)) in
+      let inside = items-inside extra (a .pad .header) (a .reads .derived .items) in
       rw (n, e, a .reads .kept)
-      (kept-raised (u ++ a .pad .left) (a .pad .header) v (items-inside extra (a .pad .header) (a .reads .derived .items)))
+      (kept-raised (u ++ a .pad .left) (a .pad .header) v inside, param-records-raised (u ++ a .pad .left) (a .pad .header) v inside)
 
   kept-all : (hs : List (Readable extra)) (w u : List ℕ) (k : ℕ) → w ≡ u ++ join (pads extra apart hs) → length u ≡ k
       → map (keptLink w) (joinedAll extra apart k hs) ≡ joinedKept k hs
@@ -116,11 +120,11 @@ module _ (extra : Extra) (apart : Admissible extra) where
   kept-all [] w u k e h = refl
   kept-all (a ∷ []) w u k e h =
       map-append (keptLink w) (map (raiseLink (k + length (a .pad .left))) (a .reads .links)) []
-      ∙ ap (λ (x : List Link). x ++ []) (kept-one w u (a .pad .right) a k (e ∙ simp append-assoc) h)
+      ∙ ap (λ (x : List Link). x ++ []) (one-raised w u (a .pad .right) a k (e ∙ simp append-assoc) h .0)
   kept-all (a ∷ b ∷ hs) w u k e h =
       let J = join (pads extra apart (b ∷ hs)) in
       map-append (keptLink w) (map (raiseLink (k + length (a .pad .left))) (a .reads .links)) _
-      ∙ ap₂ (λ (x y : List Link). x ++ y) (kept-one w u (a .pad .right ++ 44 ∷ J) a k (e ∙ simp append-assoc) h)
+      ∙ ap₂ (λ (x y : List Link). x ++ y) (one-raised w u (a .pad .right ++ 44 ∷ J) a k (e ∙ simp append-assoc) h .0)
       (kept-all (b ∷ hs) w (u ++ padded (a .pad) ++ (44 ∷ [])) (k + length (padded (a .pad)) + 1) (e ∙ simp append-assoc)
       (before-next u (padded (a .pad)) h))
 
@@ -170,25 +174,17 @@ module _ (extra : Extra) (apart : Admissible extra) where
       (param-count-raised j (a .reading))
       ∙ joined-links (k + length (padded (a .pad)) + 1) (m + countParams (a .reading)) hs)
 
-  params-one : (w u v : List ℕ) (a : Readable extra) (k : ℕ) → w ≡ u ++ a .pad .left ++ (a .pad .header ++ v) → length u ≡ k
-      → paramRecords w (map (raiseLink (k + length (a .pad .left))) (a .reading))
-      ≡ raiseParams (k + length (a .pad .left)) (paramRecords (a .pad .header) (a .reading))
-  params-one w u v a k e h =
-      let n : k + length (a .pad .left) ≡ length (u ++ a .pad .left) = omega (arith, length-append u (a .pad .left)) in
-      rw (n, e, a .reads .kept)
-      (param-records-raised (u ++ a .pad .left) (a .pad .header) v (items-inside extra (a .pad .header) (a .reads .derived .items)))
-
   joined-params : (hs : List (Readable extra)) (w u : List ℕ) (k : ℕ) → w ≡ u ++ join (pads extra apart hs) → length u ≡ k
       → paramRecords w (joinedKept extra apart k hs) ≡ joinedParams extra k hs
   unfolding joinedKept
   joined-params [] w u k e h = refl
   joined-params (a ∷ []) w u k e h =
       param-records-append w (map (raiseLink (k + length (a .pad .left))) (a .reading)) []
-      ∙ ap (λ (x : List ℕ). x ++ []) (params-one w u (a .pad .right) a k (e ∙ simp append-assoc) h)
+      ∙ ap (λ (x : List ℕ). x ++ []) (one-raised extra apart w u (a .pad .right) a k (e ∙ simp append-assoc) h .1)
   joined-params (a ∷ b ∷ hs) w u k e h =
       let J = join (pads extra apart (b ∷ hs)) in
       param-records-append w (map (raiseLink (k + length (a .pad .left))) (a .reading)) _
-      ∙ ap₂ (λ (x y : List ℕ). x ++ y) (params-one w u (a .pad .right ++ 44 ∷ J) a k (e ∙ simp append-assoc) h)
+      ∙ ap₂ (λ (x y : List ℕ). x ++ y) (one-raised extra apart w u (a .pad .right ++ 44 ∷ J) a k (e ∙ simp append-assoc) h .1)
       (joined-params (b ∷ hs) w (u ++ padded (a .pad) ++ (44 ∷ [])) (k + length (padded (a .pad)) + 1) (e ∙ simp append-assoc)
       (before-next u (padded (a .pad)) h))
 

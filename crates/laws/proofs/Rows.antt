@@ -25,7 +25,7 @@ use Rattle.grammar.specs.Kept.{nameOf, codeOf, isOnce}
 use Rattle.grammar.specs.Grammar.{from-token}
 use Rattle.tables.specs.Table.{Table, paramAt, codeAt}
 use Rattle.tables.specs.Good.{Each, each-none, each-more, Agrees, Good, GoodValue, no-value, token-value, quoted-value, wider-value}
-use Rattle.tables.proofs.InGood.{head-of}
+use Rattle.tables.proofs.InGood.{head-of, agrees-at}
 use Rattle.tables.specs.Meaning.{unescape, valueOf}
 use Rattle.tables.specs.Relation.{runs, relations, hasRelation}
 use Rattle.tables.specs.Written.{writtenValue}
@@ -121,7 +121,7 @@ allMiscoded (t ∷ ts) = isMiscoded t && allMiscoded ts
 
 module _ (e : Edition) where
   miscoded-bad : (t : Table) (j : ℕ) → length (t .text) ≤ limit → j < t .paramCount → (Agrees (t .text) (t .paramSlots) j → ⊥) → IsBad e t
-  miscoded-bad t j short l n = is-bad e t short (λ g. n (g .codes j l))
+  miscoded-bad t j short l n = is-bad e t short (λ g. n (agrees-at g j l))
 
   rows-bad : (ts : List Table) → allMiscoded ts ≡ true → Each (IsBad e) ts
   rows-bad [] h = each-none

@@ -76,14 +76,14 @@ pub record MirrorHolds : Type 0 where
   pub copied : (out : List ℕ) → 10 ≤ length out → Copy (numberOf Rfc5988) mirror 0 1 out (holding out (octets "http://c/d"))
   pub bad : IsBad Rfc8288 mirror
 
--- `<a>;rel=b` with other codes than that of `rel`: one that no name has, the largest number, that of `anchor`, and none; and
--- `<a>;relx=b` with the code of `rel`
+-- the table of `<a>;rel=b`, but with the code k
+abbrev pub relCoded : ℕ → Table
+relCoded k = recordedTable (octets "<a>;rel=b") (1 ∷ 2 ∷ 0 ∷ 1 ∷ []) (4 ∷ 7 ∷ 8 ∷ 9 ∷ 1 ∷ k ∷ [])
+
+-- `rel` with a code that no name has, the largest number, the code of `anchor`, and none; and `relx` with the code of `rel`
 abbrev pub miscoded : List Table
 miscoded =
-    recordedTable (octets "<a>;rel=b") (1 ∷ 2 ∷ 0 ∷ 1 ∷ []) (4 ∷ 7 ∷ 8 ∷ 9 ∷ 1 ∷ 9 ∷ [])
-    ∷ recordedTable (octets "<a>;rel=b") (1 ∷ 2 ∷ 0 ∷ 1 ∷ []) (4 ∷ 7 ∷ 8 ∷ 9 ∷ 1 ∷ 18446744073709551615 ∷ [])
-    ∷ recordedTable (octets "<a>;rel=b") (1 ∷ 2 ∷ 0 ∷ 1 ∷ []) (4 ∷ 7 ∷ 8 ∷ 9 ∷ 1 ∷ 2 ∷ [])
-    ∷ recordedTable (octets "<a>;rel=b") (1 ∷ 2 ∷ 0 ∷ 1 ∷ []) (4 ∷ 7 ∷ 8 ∷ 9 ∷ 1 ∷ 0 ∷ [])
+    relCoded 9 ∷ relCoded 18446744073709551615 ∷ relCoded 2 ∷ relCoded 0
     ∷ recordedTable (octets "<a>;relx=b") (1 ∷ 2 ∷ 0 ∷ 1 ∷ []) (4 ∷ 8 ∷ 9 ∷ 10 ∷ 1 ∷ 1 ∷ []) ∷ []
 
 -- A table is bad if some parameter's code isn't that of its name, whatever the rest of it is: so are these.

@@ -1,5 +1,5 @@
 -- Where codes agree with names, the first parameter of a code is the first of the name that has the code.
-use Prim.Native.Nat.{ℕ, zero, suc, _+_, _<_}
+use Prim.Native.Nat.{ℕ, zero, suc, _+_}
 use native.Mathlib.Omega.{arith}
 use native.Mathlib.Nat.{add-zero}
 use mathlib.Core.Path.{_≡_, refl, sym, subst, _∙_}
@@ -10,7 +10,7 @@ use borrow.Author.Tests.{eqb-true, eqb-false}
 use Rattle.octets.specs.Text.{octets}
 use Rattle.grammar.specs.Kept.{nameOf, codeOf}
 use Rattle.tables.specs.Table.{paramAt, codeAt, paramsFrom}
-use Rattle.tables.specs.Good.{Agrees}
+use Rattle.tables.specs.Good.{Agrees, AgreeFrom}
 use Rattle.tables.specs.Relation.{named}
 use Rattle.grammar.proofs.Codes.{codes, code-same, code-other}
 use Rattle.records.specs.Slots.{toLink}
@@ -19,7 +19,7 @@ use Rattle.named.specs.First.{Listed, coded}
 
 module _ (s P : List ℕ) where
   -- of n records from number j on
-  by-code : (m : List ℕ) {k : ℕ} → codeOf m ≡ k → (k ≡ 0 → ⊥) → (j n : ℕ) → ((i : ℕ) → i < n → Agrees s P (j + i))
+  by-code : (m : List ℕ) {k : ℕ} → codeOf m ≡ k → (k ≡ 0 → ⊥) → (j n : ℕ) → AgreeFrom s P j n
       → named s m (paramsFrom P j n) ≡ coded P k j n
   by-code m e o j zero a = refl
   by-code m {k} e o j (suc n) a =

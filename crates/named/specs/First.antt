@@ -1,5 +1,5 @@
 -- The first parameter in a link whose record has a given code.
-use Prim.Native.Nat.{ℕ, zero, suc, _+_, _≤_, _<_}
+use Prim.Native.Nat.{ℕ, zero, suc, _+_, _≤_}
 use mathlib.Core.Path.{_≡_}
 use mathlib.Core.Bool.{cond}
 use mathlib.Core.List.{List}
@@ -10,7 +10,7 @@ use Rattle.octets.specs.declared.editions.Edition.the-variants.{Rfc5988}
 use Rattle.grammar.specs.Link.{Param}
 use Rattle.grammar.specs.Records.{paramRoom}
 use Rattle.tables.specs.Table.{paramAt, codeAt}
-use Rattle.tables.specs.Good.{Each, GoodParam, Agrees}
+use Rattle.tables.specs.Good.{Each, GoodParam, AgreeFrom}
 use Rattle.records.specs.Slots.{toLink, toParam}
 use Rattle.records.specs.declared.LinkRecord.{LinkRecord}
 use Rattle.named.specs.declared.Named.{Named}
@@ -21,7 +21,7 @@ use Rattle.named.specs.declared.Named.the-variants.{Found, Absent}
 pub record Listed (s P : List ℕ) (l : LinkRecord) : Type 0 where
   pub room : l .first .0 + l .count ≤ paramRoom P
   pub params : Each (GoodParam (further Rfc5988) s) ((toLink P l) .params)
-  pub codes : (j : ℕ) → j < l .count → Agrees s P (l .first .0 + j)
+  pub codes : AgreeFrom s P (l .first .0) (l .count)
 
 -- of n parameter records from number j on the first with the code k
 abbrev pub coded : List ℕ → ℕ → ℕ → ℕ → Option Param

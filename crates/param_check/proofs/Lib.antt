@@ -1,3 +1,4 @@
--- What the proofs share: values by their form, and the loop over the parameters of a link.
+-- What the proofs share: values by their form, known names as tokens, and the loop over the parameters of a link.
 mod Values
+mod KnownNames
 mod OfParams

@@ -11,7 +11,7 @@ use Rattle.grammar.specs.Link.{Param}
 use Rattle.grammar.specs.Grammar.{Extra}
 use Rattle.grammar.specs.Kept.{nameOf, among, isOnce, codeOf}
 use Rattle.tables.specs.Table.{paramAt, paramsFrom}
-use Rattle.tables.specs.Good.{each-none, each-more, onceEach, GoodParam, Agrees}
+use Rattle.tables.specs.Good.{each-none, each-more, onceEach, GoodParam, Agrees, AgreeFrom}
 use Rattle.tables.proofs.InGood.{head-of, tail-of}
 use Rattle.records.specs.Slots.{IsParam, toParam}
 use Rattle.records.specs.declared.ParamRecord.{ParamRecord}
@@ -19,7 +19,7 @@ use Rattle.names.specs.Remembers.{Remembers, noneSeen, hasCode, withCode}
 use Rattle.names.specs.declared.Seen.{Seen}
 use Rattle.names.proofs.Seeing.{nothing-seen, has-told, seen-with}
 use Rattle.part_check.specs.Decides.{Decides}
-use Rattle.param_check.specs.Params.{GoodParams}
+use Rattle.param_check.specs.Params.{CodedParam, GoodParams}
 use Rattle.part_check.proofs.Deciding.{is-so, not-so}
 
 -- the parameter p repeats a name kept once
@@ -58,7 +58,7 @@ module _ {extra : Extra} {s P : List ℕ} {earlier : List (List ℕ)} {j n : ℕ
         codes = codes;
       }
     where
-      codes : (k : ℕ) → k < suc n → Agrees s P (j + k)
+      codes : AgreeFrom s P j (suc n)
       codes zero l = subst (Agrees s P) (sym (add-zero j)) (g .agrees)
       codes (suc k) l = let e : suc j + k ≡ j + suc k = omega arith in subst (Agrees s P) e (g .rest .codes k (omega arith))
 
@@ -110,36 +110,44 @@ module _ {extra : Extra} {s P : List ℕ} {first count : ℕ} where
       apart : AllParams extra s P first count → FirstParam extra s P (w .earlier) (first + k) (count - (k + 1))
       apart g = split (rw more at (w .on g))
 
-      pub bad-param : (GoodParam extra s q → ⊥) → Decides false (AllParams extra s P first count)
-      bad-param bad = not-so (λ g. bad (rw same (apart g .good)))
+      -- what is asked of the record is what is asked of it in the table
+      recorded : CodedParam extra s r → GoodParam extra s (paramAt P (first + k)) × Agrees s P (first + k)
+      recorded g = (
+        subst (GoodParam extra s) same (g .good),
+        sym (rw at at (is .code)) ∙ g .code ∙ ap (λ (p : Param). codeOf (nameOf s p)) same,
+      )
 
-      module _ {c : ℕ} (coded : c ≡ codeOf (nameOf s q)) where
-        agreed : c ≡ r .code → Agrees s P (first + k)
-        agreed e = sym (rw at at (is .code)) ∙ sym e ∙ coded ∙ ap (λ (p : Param). codeOf (nameOf s p)) same
+      pub bad-param : (CodedParam extra s r → ⊥) → Decides false (AllParams extra s P first count)
+      bad-param bad =
+          not-so
+          (λ g.
+          bad
+          (record {
+            good = subst (GoodParam extra s) (sym same) (apart g .good);
+            code = rw at at (is .code) ∙ apart g .agrees ∙ ap (λ (p : Param). codeOf (nameOf s p)) (sym same);
+          }))
 
-        pub miscoded : (c ≡ r .code → ⊥) → Decides false (AllParams extra s P first count)
-        miscoded bad =
-            not-so
-            (λ g. bad (coded ∙ ap (λ (p : Param). codeOf (nameOf s p)) same ∙ sym (apart g .agrees) ∙ sym (rw at at (is .code))))
+      -- it is so, and b tells whether its name was seen
+      module _ (so : CodedParam extra s r) {b : Bool} (asked : b ≡ hasCode seen (r .code)) where
+        told : b ≡ repeats s (w .earlier) (paramAt P (first + k))
+        told = has-told (w .seen-earlier) (nameOf s q) (so .code) asked ∙ ap (repeats s (w .earlier)) same
 
-        module _ {b : Bool} (asked : b ≡ hasCode seen c) where
-          told : b ≡ repeats s (w .earlier) (paramAt P (first + k))
-          told = has-told (w .seen-earlier) (nameOf s q) coded asked ∙ ap (repeats s (w .earlier)) same
+        pub repeated : b ≡ true → Decides false (AllParams extra s P first count)
+        repeated t = not-so (λ g. false≢true (sym (apart g .new) ∙ sym told ∙ t))
 
-          pub repeated : b ≡ true → Decides false (AllParams extra s P first count)
-          repeated t = not-so (λ g. false≢true (sym (apart g .new) ∙ sym told ∙ t))
-
-          pub passed : {new : Seen} → c ≡ r .code → b ≡ false → GoodParam extra s q → new ≡ withCode seen c
-              → Checked extra s P first count new (k + 1)
-          passed {new} a f good n =
-              record {
-                within = omega arith;
-                earlier = nameOf s (paramAt P (first + k)) ∷ w .earlier;
-                seen-earlier =
-                    subst (λ (p : Param). Remembers new (nameOf s p ∷ w .earlier)) same (seen-with (w .seen-earlier) (nameOf s q) coded n);
-                back =
-                    λ g.
-                    w .back
-                    (rw more (joined (record { good = rw same at good; agrees = agreed a; new = sym told ∙ f; rest = rw next at g })));
-                on = λ g. rw next (apart g .rest);
-              }
+        pub passed : {new : Seen} → b ≡ false → new ≡ withCode seen (r .code) → Checked extra s P first count new (k + 1)
+        passed {new} f n =
+            record {
+              within = omega arith;
+              earlier = nameOf s (paramAt P (first + k)) ∷ w .earlier;
+              seen-earlier =
+                  subst (λ (p : Param). Remembers new (nameOf s p ∷ w .earlier)) same
+                  (seen-with (w .seen-earlier) (nameOf s q) (so .code) n);
+              back =
+                  λ g.
+                  w .back
+                  (rw more
+                  (joined
+                  (record { good = recorded so .0; agrees = recorded so .1; new = sym told ∙ f; rest = rw next at g })));
+              on = λ g. rw next (apart g .rest);
+            }

@@ -3,11 +3,12 @@ ghost use Prim.Native.Nat.{_+_, _≤_};
 ghost use mathlib.Core.List.{[]};
 ghost use Rattle.octets.specs.Editions.{further};
 ghost use Rattle.grammar.specs.Records.{paramRoom};
-ghost use Rattle.tables.specs.Good.{InText, GoodValue, GoodParam};
+ghost use Rattle.tables.specs.Good.{InText, GoodValue};
 ghost use Rattle.records.specs.Slots.{toParam};
 ghost use Rattle.part_check.specs.Decides.{Decides};
-ghost use Rattle.param_check.specs.Params.{WiderValue, GoodParams};
+ghost use Rattle.param_check.specs.Params.{WiderValue, CodedName, CodedParam, GoodParams};
 use kinds::ParamNumber;
+use kinds::Span;
 use names::Seen;
 use octets::editions::Edition;
 use part_check::PartKind;
@@ -16,6 +17,7 @@ use part_check::is_span;
 use part_check::is_token_part;
 use part_check::is_wider_part;
 use records::ParamParts;
+use records::ParamRecord;
 use records::param_at;
 
 // Whether the form is 3, and the value is what the edition allows without quotes though it is no token. The edition is asked first, so
@@ -45,20 +47,35 @@ fn is_good_value(edition: Edition, s: &[u8], p: ParamParts) -> bool
     }
 }
 
-// Whether the spans lie in the text, and the name and the value obey the grammar.
-fn is_good_param(edition: Edition, s: &[u8], p: ParamParts) -> bool
-    ensures { λ r. ⌜ Decides r (GoodParam (further edition) (now (s .entry)) (toParam p)) ⌝ }
+// Whether the name that stands there has this code, and is a token. A known name is one, and isn't looked at again.
+fn is_good_name(s: &[u8], name: Span, code: usize) -> bool
+    requires { ⌜ InText (now s) (name .from .0) (name .to .0) ⌝ }
+    ensures { λ r. ⌜ Decides r (CodedName (now (s .entry)) (name .from .0) (name .to .0) code) ⌝ }
 {
-    let name = p.name;
-    let value = p.value;
-    if is_span(s, name) && is_span(s, value) && is_token_part(s, name) {
-        return is_good_value(edition, s, p);
+    let told = names::code(s, name);
+    if told != code {
+        return false;
+    }
+    if code > 0 {
+        return true;
+    }
+    is_token_part(s, name)
+}
+
+// Whether the spans lie in the text, the name and the value obey the grammar, and the code agrees with the name.
+fn is_good_param(edition: Edition, s: &[u8], p: ParamRecord) -> bool
+    ensures { λ r. ⌜ Decides r (CodedParam (further edition) (now (s .entry)) p) ⌝ }
+{
+    let parts = p.parts;
+    let name = parts.name;
+    let value = parts.value;
+    if is_span(s, name) && is_span(s, value) && is_good_value(edition, s, parts) {
+        return is_good_name(s, name, p.code);
     }
     false
 }
 
 // Whether `count` parameters from `first` on are good, their codes agree with their names, and no two of them share a name kept once.
-// Here alone a name is looked at: whoever looks a parameter up later goes by its code.
 pub fn are_good_params(
     edition: Edition,
     s: &[u8],
@@ -73,13 +90,11 @@ pub fn are_good_params(
     let mut k = 0;
     while k < count {
         let p = param_at(slots, first.plus(k));
-        let parts = p.parts;
-        if !is_good_param(edition, s, parts) {
+        if !is_good_param(edition, s, p) {
             return false;
         }
-        let name = parts.name;
-        let code = names::code(s, name);
-        if code != p.code || seen.has(code) {
+        let code = p.code;
+        if seen.has(code) {
             return false;
         }
         seen = seen.with(code);

@@ -23,7 +23,7 @@ use Rattle.scan_parts.proofs.ReadyBehindValue.{first-of, uncons, no-fur
 abbrev pub FromTo : Span → ℕ → ℕ → Type 0
 FromTo a b e = (a .from .0 ≡ b) × (a .to .0 ≡ e)
 
--- a record of such spans
+-- parts of such spans
 same-param : (r : ParamParts) {n e a b f : ℕ} → FromTo (r .name) n e → FromTo (r .value) a b → r .form ≡ f
     → param n e a b f ≡ toParam r
 same-param r x y z = rw (x .0, x .1, y .0, y .1, z)

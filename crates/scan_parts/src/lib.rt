@@ -15,7 +15,7 @@ pub enum Scan {
     Past(Cursor),
 }
 
-// A parameter's record, and the cursor behind it.
+// A parameter's parts, and the cursor behind it.
 pub enum ParamScan {
     NoParam(Place),
     Param(ParamParts, Cursor),

@@ -1,39 +1,75 @@
 // Whether a table is good. Every number may be anything: none is used as a place or as a count before it is known to fit.
-ghost use Prim.Native.Nat.{_+_, _≤_};
+ghost use Prim.Native.Nat.{_≤_};
 ghost use Rattle.octets.specs.Editions.{further};
-ghost use Rattle.grammar.specs.Records.{paramRoom};
+ghost use Rattle.grammar.specs.Records.{linkRoom};
 ghost use Rattle.tables.specs.Good.{Good};
 ghost use Rattle.tables.specs.Table.{tableOf};
 ghost use Rattle.part_check.specs.Decides.{Decides};
-ghost use Rattle.table_check.specs.Links.{CodedLink};
+ghost use Rattle.table_check.specs.Links.{GoodTarget, Linked, Fits, EachParams};
 use kinds::Counts;
 use kinds::LinkNumber;
 use kinds::ParamNumber;
+use kinds::Span;
 use octets::editions::Edition;
 use param_check::are_good_params;
 use part_check::PartKind;
 use part_check::is_part;
 use part_check::is_span;
-use records::LinkRecord;
 use records::link_at;
 use records::link_room;
 use records::param_room;
 
-// Whether a link is good: its target, and its parameters.
-fn is_good_link(edition: Edition, s: &[u8], params: &[usize], l: LinkRecord) -> bool
-    requires { ⌜ l .first .0 + l .count ≤ paramRoom (now params) ⌝ }
-    ensures { λ r. ⌜ Decides r (CodedLink (further edition) (now (s .entry)) (now (params .entry)) l) ⌝ }
+// Whether the span lies in the text, and is a target.
+fn is_good_target(s: &[u8], target: Span) -> bool
+    ensures { λ r. ⌜ Decides r (GoodTarget (now (s .entry)) (target .from .0) (target .to .0)) ⌝ }
 {
-    let target = l.target;
-    let first = l.first;
-    if is_span(s, target) && is_part(s, target, PartKind::Target) {
-        return are_good_params(edition, s, params, first, l.count);
-    }
-    false
+    is_span(s, target) && is_part(s, target, PartKind::Target)
 }
 
-// Whether the counts fit the rooms, each link's parameters begin where the former's end, the last link's end at the parameter
-// count, and each link is good, with codes that agree with the names.
+// Whether each link's parameters begin where the former's end, the last link's end at the parameter count, and each target is good. The
+// parameters have a loop of their own: in one with targets the compiled code kept the sets of both in memory.
+fn are_linked(text: &[u8], links: &[usize], counts: Counts) -> bool
+    requires { ⌜ counts .links ≤ linkRoom (now links) ⌝ }
+    ensures { λ r. ⌜ Decides r (Linked (now (text .entry)) (now (links .entry)) (counts .links) (counts .params)) ⌝ }
+{
+    let mut next = ParamNumber::first();
+    let mut i = LinkNumber::first();
+    while i.0 < counts.links {
+        let l = link_at(links, i);
+        let left = counts.params - next.0;
+        if l.first.0 != next.0 || l.count > left || !is_good_target(text, l.target) {
+            return false;
+        }
+        next = next.plus(l.count);
+        i = i.next();
+    }
+    next.0 == counts.params
+}
+
+// Whether the parameters of each link are good.
+fn are_all_good(
+    edition: Edition,
+    text: &[u8],
+    links: &[usize],
+    params: &[usize],
+    counts: Counts,
+) -> bool
+    requires { ⌜ Fits (now links) (now params) (counts .links) (counts .params) ⌝ }
+    ensures { λ r. ⌜
+        Decides r (EachParams (further edition) (now (text .entry)) (now (links .entry)) (now (params .entry)) (counts .links)) ⌝ }
+{
+    let mut i = LinkNumber::first();
+    while i.0 < counts.links {
+        let l = link_at(links, i);
+        if !are_good_params(edition, text, params, l.first, l.count) {
+            return false;
+        }
+        i = i.next();
+    }
+    true
+}
+
+// Whether the counts fit the rooms, the links follow one another, and each link is good, with codes that agree with the names.
 pub fn is_good(
     edition: Edition,
     text: &[u8],
@@ -48,16 +84,8 @@ pub fn is_good(
     if counts.links > link_room(links) || counts.params > param_room(params) {
         return false;
     }
-    let mut next = ParamNumber::first();
-    let mut i = LinkNumber::first();
-    while i.0 < counts.links {
-        let l = link_at(links, i);
-        let left = counts.params - next.0;
-        if l.first.0 != next.0 || l.count > left || !is_good_link(edition, text, params, l) {
-            return false;
-        }
-        next = next.plus(l.count);
-        i = i.next();
+    if !are_linked(text, links, counts) {
+        return false;
     }
-    next.0 == counts.params
+    are_all_good(edition, text, links, params, counts)
 }

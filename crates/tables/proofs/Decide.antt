@@ -243,4 +243,4 @@ good-decided extra t =
     (Dec·and (decLe (t .paramCount) (paramRoom (t .paramSlots)))
     (Dec·and (follows? (t .linkSlots) 0 (t .linkCount) 0 (t .paramCount))
     (Dec·and (each? (link? extra (t .text)) (linksOf t))
-    (below? (λ j. ℕ-discrete (codeAt (t .paramSlots) j) (codeOf (nameOf (t .text) (paramAt (t .paramSlots) j)))) (t .paramCount))))))
+    (below? (λ j. ℕ-discrete (codeAt (t .paramSlots) (0 + j)) (codeOf (nameOf (t .text) (paramAt (t .paramSlots) (0 + j))))) (t .paramCount))))))

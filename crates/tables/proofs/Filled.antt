@@ -9,8 +9,8 @@ use lib.Seq.{getD-append-add}
 use Rattle.grammar.specs.Link.{Link, Param}
 use Rattle.grammar.specs.Kept.{nameOf, codeOf}
 use Rattle.grammar.specs.Records.{linkWidth, paramWidth, countParams, linkRecords, recordsOf, paramRecords}
-use Rattle.tables.specs.Table.{paramAt, codeAt, paramsFrom, firstOf, countOf, linkAt, linksFrom}
-use Rattle.tables.specs.Good.{Follows, Agrees}
+use Rattle.tables.specs.Table.{paramAt, paramsFrom, firstOf, countOf, linkAt, linksFrom}
+use Rattle.tables.specs.Good.{Follows, Agrees, AgreeFrom}
 
 pub link-records-length : (n : ℕ) (ls : List Link) → length (linkRecords n ls) ≡ linkWidth * length ls
 link-records-length n [] = refl
@@ -66,7 +66,7 @@ params-filled s w u v j (p ∷ ps) e h =
     (params-filled s w (u ++ recordsOf s (p ∷ [])) v (suc j) ps (record-on s w u v p ps e) (record-before s u j p h))
 
 codes-filled : (s w u v : List ℕ) (j : ℕ) (ps : List Param) → w ≡ u ++ (recordsOf s ps ++ v) → length u ≡ paramWidth * j
-    → (k : ℕ) → k < length ps → Agrees s w (j + k)
+    → AgreeFrom s w j (length ps)
 codes-filled s w u v j [] e h k l = absurd (omega arith)
 codes-filled s w u v j (p ∷ ps) e h zero l =
     subst (Agrees s w) (sym (add-zero j)) (code-filled s w u (recordsOf s ps ++ v) j p e h)
@@ -164,8 +164,7 @@ unfolding allOf
 count-of-all [] = refl
 count-of-all (l ∷ ls) = omega (arith, length-append (l .params) (allOf ls), count-of-all ls)
 
-pub filled-codes : (s : List ℕ) (K : List Link) (Y : List ℕ) (j : ℕ) → j < countParams K → Agrees s (paramRecords s K ++ Y) j
+pub filled-codes : (s : List ℕ) (K : List Link) (Y : List ℕ) → AgreeFrom s (paramRecords s K ++ Y) 0 (countParams K)
 filled-codes s K Y j l =
-    subst (Agrees s (paramRecords s K ++ Y)) (zero-add j)
-    (codes-filled s (paramRecords s K ++ Y) [] Y 0 (allOf K) (ap (λ (x : List ℕ). x ++ Y) (records-of-all s K)) refl j
-    (omega (arith, count-of-all K)))
+    codes-filled s (paramRecords s K ++ Y) [] Y 0 (allOf K) (ap (λ (x : List ℕ). x ++ Y) (records-of-all s K)) refl j
+    (omega (arith, count-of-all K))

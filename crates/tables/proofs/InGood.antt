@@ -1,6 +1,6 @@
 -- The records of a good table: each lies in its slots, and each is good.
 use Prim.Native.Nat.{ℕ, zero, suc, _+_, _-_, _≤_, _<_}
-use native.Mathlib.Nat.{le-of-suc-le-suc}
+use native.Mathlib.Nat.{zero-add, le-of-suc-le-suc}
 use native.Mathlib.Omega.{arith}
 use mathlib.Core.Path.{_≡_, refl, subst}
 use mathlib.Core.Bool.{Bool, true, false}
@@ -12,7 +12,7 @@ use Rattle.grammar.specs.Grammar.{Extra}
 use Rattle.grammar.specs.Kept.{nameOf}
 use Rattle.grammar.specs.Records.{linkRoom, paramRoom}
 use Rattle.tables.specs.Table.{Table, firstOf, countOf, paramAt, paramsFrom, linkAt, linksFrom}
-use Rattle.tables.specs.Good.{Each, each-none, each-more, Follows, Agrees, GoodParam, GoodLink, Good}
+use Rattle.tables.specs.Good.{Each, each-none, each-more, Follows, Agrees, AgreeFrom, GoodParam, GoodLink, Good}
 use Rattle.tables.specs.Relation.{named}
 
 -- ---- every record of a run of records
@@ -43,7 +43,7 @@ pub follows-le : (L : List ℕ) (i n at m : ℕ) → Follows L i n at m → at �
 follows-le L i zero at m f = omega arith
 follows-le L i (suc n) at m f = omega (arith, follows-le L (suc i) n (at + countOf L i) m (f .1))
 
-follows-end : (L : List ℕ) (i n at m j : ℕ) → Follows L i n at m → j < n → firstOf L (i + j) + countOf L (i + j) ≤ m
+pub follows-end : (L : List ℕ) (i n at m j : ℕ) → Follows L i n at m → j < n → firstOf L (i + j) + countOf L (i + j) ≤ m
 follows-end L i zero at m j f l = absurd (omega arith)
 follows-end L i (suc n) at m zero f l =
     let e : i ≡ i + 0 = omega arith in
@@ -67,6 +67,11 @@ named-each {Q} s n {p = p} (each-more {x} {xs} q r) e = go (same (nameOf s x) n)
         subst Q first q
     go false h later = later (rw (h, named) at e)
 
+-- ---- the code of each record below the count
+
+pub agrees-at : {extra : Extra} {t : Table} → Good extra t → (j : ℕ) → j < t .paramCount → Agrees (t .text) (t .paramSlots) j
+agrees-at {t = t} g j l = subst (Agrees (t .text) (t .paramSlots)) (zero-add j) (g .codes j l)
+
 -- ---- link number i of a good table, and its parameters: by the index within the link, or by the number p in the table
 
 module _ {extra : Extra} {t : Table} (g : Good extra t) {i : ℕ} (l : i < t .linkCount) where
@@ -89,8 +94,8 @@ module _ {extra : Extra} {t : Table} (g : Good extra t) {i : ℕ} (l : i < t .li
   pub params-slots : firstOf (t .linkSlots) i + countOf (t .linkSlots) i ≤ paramRoom (t .paramSlots)
   params-slots = omega (arith, g .param-room, params-inside)
 
-  pub codes-agree : (j : ℕ) → j < countOf (t .linkSlots) i → Agrees (t .text) (t .paramSlots) (firstOf (t .linkSlots) i + j)
-  codes-agree j h = g .codes (firstOf (t .linkSlots) i + j) (omega (arith, params-inside))
+  pub codes-agree : AgreeFrom (t .text) (t .paramSlots) (firstOf (t .linkSlots) i) (countOf (t .linkSlots) i)
+  codes-agree j h = agrees-at g (firstOf (t .linkSlots) i + j) (omega (arith, params-inside))
 
   pub good-param : {j : ℕ} → j < countOf (t .linkSlots) i → GoodParam extra (t .text) (paramAt (t .paramSlots) (firstOf (t .linkSlots) i + j))
   good-param {j} h =

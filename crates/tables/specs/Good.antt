@@ -33,6 +33,10 @@ onceEach s earlier (p ∷ ps) =
 abbrev pub Agrees : List ℕ → List ℕ → ℕ → Type 0
 Agrees s P j = codeAt P j ≡ codeOf (nameOf s (paramAt P j))
 
+-- so it is with n records from number j on
+abbrev pub AgreeFrom : List ℕ → List ℕ → ℕ → ℕ → Type 0
+AgreeFrom s P j n = (k : ℕ) → k < n → Agrees s P (j + k)
+
 module _ (s : List ℕ) where
   -- a span of the text: it ends no earlier than it starts, and no later than the text
   pub record InText (a e : ℕ) : Type 0 where
@@ -68,4 +72,4 @@ pub record Good (extra : Extra) (t : Table) : Type 0 where
   pub param-room : t .paramCount ≤ paramRoom (t .paramSlots)
   pub follows : Follows (t .linkSlots) 0 (t .linkCount) 0 (t .paramCount)
   pub links : Each (GoodLink extra (t .text)) (linksOf t)
-  pub codes : (j : ℕ) → j < t .paramCount → Agrees (t .text) (t .paramSlots) j
+  pub codes : AgreeFrom (t .text) (t .paramSlots) 0 (t .paramCount)

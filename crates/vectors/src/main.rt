@@ -84,7 +84,12 @@ fn list_length(n: usize)
     list_long(&mut header[..n]);
 }
 
-// A header of two links and three parameters, in as many slots.
+// The slots of two links, and of three parameters.
+const LINKS: usize = 2 * LINK_SLOTS;
+
+const PARAMS: usize = 3 * PARAM_SLOTS;
+
+// A header of two links and three parameters, in as many slots, up to one less than another record has.
 fn list_room(link_slots: usize, param_slots: usize)
     requires { ⌜ («link_slots» ≤ 11) × («param_slots» ≤ 23) ⌝ }
 {
@@ -93,8 +98,8 @@ fn list_room(link_slots: usize, param_slots: usize)
     io::write_all(1, b" ");
     io::print_decimal(1, param_slots as u64);
     io::write_all(1, b"\n");
-    let mut links = [0usize; 11];
-    let mut params = [0usize; 23];
+    let mut links = [0usize; LINKS + 3];
+    let mut params = [0usize; PARAMS + 5];
     listing::list(
         RFC8288,
         b"<a>;x;y,<b>;z",
@@ -110,10 +115,10 @@ fn main() {
     list_length(LIMIT - 1);
     list_length(LIMIT);
     list_length(LIMIT + 1);
-    list_room(8, 18);
-    list_room(11, 23);
-    list_room(7, 18);
-    list_room(8, 17);
-    list_room(7, 17);
+    list_room(LINKS, PARAMS);
+    list_room(LINKS + 3, PARAMS + 5);
+    list_room(LINKS - 1, PARAMS);
+    list_room(LINKS, PARAMS - 1);
+    list_room(LINKS - 1, PARAMS - 1);
     list_room(0, 0);
 }

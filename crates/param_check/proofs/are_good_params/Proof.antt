@@ -1,12 +1,10 @@
 -- The loop passes the parameters: those that are left, behind the names that have been seen, tell what all of them are.
 use Prim.Native.Nat.{_-_}
 use native.Mathlib.Omega.{arith}
-use mathlib.Core.Logic.{⊎-elim}
 use borrow.Author.Needs.{needs}
 use borrow.Author.Tests.{not-true, not-false}
 use Rattle.octets.specs.Editions.{further}
-use Rattle.grammar.specs.Kept.{nameOf}
-use Rattle.param_check.proofs.OfParams.{Checked, begin, bad-param, miscoded, repeated, passed, through}
+use Rattle.param_check.proofs.OfParams.{Checked, begin, bad-param, repeated, passed, through}
 use Rattle.param_check.proofs.are_good_params.Statement.{statement}
 use Rattle.param_check.proofs.are_good_params.Tie as tie
 
@@ -34,57 +32,34 @@ is-good-param-requires c κs = search needs
 returns : tie.Need-returns Inv-loop μ-loop
 returns c =
     let b1 = c .before .before .before in
-    bad-param (b1 .before .before .before .loop .inv) (b1 .before .before .loop-test .taken) (b1 .before .plus .ensures) (b1 .param-at .ensures)
+    bad-param (b1 .before .before .loop .inv) (b1 .before .loop-test .taken) (b1 .plus .ensures) (c .before .before .param-at .ensures)
     (c .before .is-good-param .ensures .fails (not-true _ (c .if1 .taken)))
-
-code-requires : tie.Need-code-requires Inv-loop μ-loop
-code-requires c κs = c .before .before .is-good-param .ensures .holds (not-false _ (c .before .if1 .left)) .name-span
 
 has-requires : tie.Need-has-requires Inv-loop μ-loop
 has-requires c κs = search needs
 
 returns-2 : tie.Need-returns-2 Inv-loop μ-loop
-unfolding nameOf
 returns-2 c =
-    let b1 = c .before .before .before .before .before .before .before in
-    let loop′ = b1 .before .before .before .loop in
-    let loop-test′ = b1 .before .before .loop-test in
-    let plus′ = b1 .before .plus in
-    let param-at′ = b1 .param-at in
-    let code′ = c .before .before .code in
-    ⊎-elim
-    (λ w. miscoded (loop′ .inv) (loop-test′ .taken) (plus′ .ensures) (param-at′ .ensures) (code′ .ensures) (w .taken))
-    (λ w.
-    repeated (loop′ .inv) (loop-test′ .taken) (plus′ .ensures) (param-at′ .ensures) (code′ .ensures) (w .1 .ensures) (w .2 .taken))
-    (c .if2 .came)
+    let b1 = c .before .before .before .before .before in
+    let so = c .before .before .before .is-good-param .ensures .holds (not-false _ (c .before .before .if1 .left)) in
+    repeated (b1 .before .before .loop .inv) (b1 .before .loop-test .taken) (b1 .plus .ensures) (c .before .before .before .before .param-at .ensures) so
+    (c .before .has .ensures) (c .if2 .taken)
 
 with-requires : tie.Need-with-requires Inv-loop μ-loop
 with-requires c κs = search needs
 
 add-k : tie.Need-add-k Inv-loop μ-loop
-add-k c =
-    let b1 = c .before .before .before .before .before .before .before .before .before .before .before .before in
-    let start = b1 .before .before .before .before .before in
-    omega (arith, b1 .loop-test .taken, start .good .1 .1 .1 .1 .0)
+add-k c = omega (arith, c .before .before .before .before .before .before .before .loop-test .taken)
 
 loop-less : tie.Need-loop-less Inv-loop μ-loop
-loop-less c = omega (arith, c .before .before .before .before .before .before .before .before .before .before .before .before .loop-test .taken)
+loop-less c = omega (arith, c .before .before .before .before .before .before .before .loop-test .taken)
 
 loop-again : tie.Need-loop-again Inv-loop μ-loop
-unfolding nameOf
 loop-again c =
-    let b1 = c .before .before .before .before .before .before .before .before .before .before in
-    let loop′ = b1 .before .before .before .loop in
-    let loop-test′ = b1 .before .before .loop-test in
-    let plus′ = b1 .before .plus in
-    let param-at′ = b1 .param-at in
-    let is-good-param′ = c .before .before .before .before .before .before .before .before .is-good-param in
-    let if1′ = c .before .before .before .before .before .before .before .if1 in
-    let code′ = c .before .before .before .before .before .code in
-    let if2′ = c .before .before .before .if2 in
-    let has′ = c .before .before .has in
-    passed (loop′ .inv) (loop-test′ .taken) (plus′ .ensures) (param-at′ .ensures) (code′ .ensures) (has′ .ensures) (if2′ .left)
-    (c .before .if3 .left) (is-good-param′ .ensures .holds (not-false _ (if1′ .left))) (c .with .ensures)
+    let b1 = c .before .before .before .before .before .before in
+    let so = c .before .before .before .before .is-good-param .ensures .holds (not-false _ (c .before .before .before .if1 .left)) in
+    passed (b1 .before .before .loop .inv) (b1 .before .loop-test .taken) (b1 .plus .ensures) (c .before .before .before .before .before .param-at .ensures) so
+    (c .before .before .has .ensures) (c .before .if2 .left) (c .with .ensures)
 
 returns-3 : tie.Need-returns-3 Inv-loop μ-loop
 returns-3 c = through (c .before .loop .inv) (c .loop-test .left)
@@ -101,7 +76,6 @@ are-good-params-spec =
     param-at-requires
     is-good-param-requires
     returns
-    code-requires
     has-requires
     returns-2
     with-requires

@@ -30,11 +30,7 @@ pub const WAYS: &[(&str, Way)] = &[
     ("the largest parameter count", |_, tables| {
         tables.param_count = usize::MAX
     }),
-    ("a parameter count whose slots wrap to few", wrapped_to_few),
-    (
-        "a parameter count whose slots wrap to the right ones",
-        wrapped_to_all,
-    ),
+    ("a parameter count whose slots wrap to few", wrapped_slots),
     ("the first link's parameters begin at 1", |_, tables| {
         insert_param(tables, 0);
         raise_firsts(tables, 0);
@@ -83,18 +79,9 @@ fn raise_firsts(tables: &mut Tables, from: usize) {
 }
 
 /// The count's slots are 2, counted round.
-fn wrapped_to_few(_: &mut Numbers, tables: &mut Tables) {
+fn wrapped_slots(_: &mut Numbers, tables: &mut Tables) {
     tables.param_count = usize::MAX / PARAM_SLOTS + 1;
     assert_eq!(tables.param_count.wrapping_mul(PARAM_SLOTS), 2);
-}
-
-/// The count's slots are those that there are, counted round, and the last link's parameters end there.
-fn wrapped_to_all(_: &mut Numbers, tables: &mut Tables) {
-    let round = 1 << (usize::BITS - 1);
-    tables.param_count += round;
-    tables.links[3 * 4 + COUNT] += round;
-    let slots = tables.param_count.wrapping_mul(PARAM_SLOTS);
-    assert_eq!(slots, tables.params.len());
 }
 
 /// The second link's parameters end at 0, counted round, and those of the last at the count. Names
