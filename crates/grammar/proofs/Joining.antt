@@ -1,18 +1,17 @@
 -- The joining law: the join's kept parameters and records are the headers' own, raised.
-use Prim.Native.Nat.{ℕ, suc, _+_, _≤_}
+use Prim.Native.Nat.{ℕ, _+_, _≤_}
 use native.Mathlib.Omega.{arith}
 use native.Mathlib.Nat.{add-assoc, add-zero, zero-add}
-use mathlib.Core.Path.{_≡_, refl, sym, ap, ap₂, subst, _∙_}
+use mathlib.Core.Path.{_≡_, refl, sym, ap, ap₂, _∙_}
 use mathlib.Core.Bool.{Bool, true, false, _&&_}
 use mathlib.Core.List.{List, [], _∷_, _++_, map, map-append, append-assoc}
 use lib.ListN.{length, length-append, length-map}
 use Rattle.octets.specs.Fold.{folded}
 use Rattle.grammar.specs.Link.{Link, Param}
 use Rattle.grammar.specs.Grammar.{Extra, Admissible}
-use Rattle.grammar.specs.Kept.{nameOf, among, codeOf, isOnce, unless, keepAfter, keptLink, Reading}
+use Rattle.grammar.specs.Kept.{nameOf, among, codeOf, isOnce, unless, keepAfter, keptLink}
 use Rattle.grammar.specs.Records.{linkRecords, recordsOf, paramRecords, countParams}
 use Rattle.grammar.specs.Join.{
-  Padded,
   padded,
   join,
   raiseLinks,
@@ -22,7 +21,6 @@ use Rattle.grammar.specs.Join.{
   joinedParams,
   linkSum,
   paramSum,
-  JoinReads,
 }
 use Rattle.grammar.specs.Laws.{Joins}
 use Rattle.grammar.proofs.Raise.{raiseParam, raiseLink}

@@ -1,5 +1,4 @@
 -- The twelve headers read by hand that are proved together.
-use Prim.Native.Nat.{ℕ}
 use mathlib.Core.List.{List, [], _∷_}
 use Rattle.octets.specs.Text.{octets}
 use Rattle.outcomes.specs.Number.{noRelation}

@@ -1,5 +1,4 @@
 -- Headers at which readers elsewhere slip: the same statement as for the marked ones.
-use Prim.Native.Nat.{ℕ}
 use mathlib.Core.List.{List, [], _∷_}
 use Rattle.octets.specs.Text.{octets}
 use Rattle.outcomes.specs.Number.{noRelation}

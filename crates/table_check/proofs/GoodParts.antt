@@ -1,5 +1,5 @@
 -- A table is good just if its links follow one another with good targets, and the parameters of each are good.
-use Prim.Native.Nat.{ℕ, zero, suc, _+_, _-_, _*_, _≤_, _<_}
+use Prim.Native.Nat.{ℕ, zero, suc, _+_, _-_, _≤_, _<_}
 use native.Mathlib.Omega.{arith}
 use native.Mathlib.Nat.{add-zero, zero-add, eq-or-lt-of-le}
 use native.Mathlib.Decide.{decLt}
@@ -7,9 +7,8 @@ use mathlib.Core.Path.{_≡_, sym, subst}
 use mathlib.Core.Logic.{⊎-elim}
 use mathlib.Core.Bool.{false}
 use mathlib.Core.List.{List, []}
-use lib.ListN.{getD}
 use Rattle.grammar.specs.Grammar.{Extra}
-use Rattle.grammar.specs.Records.{linkWidth, linkRoom, paramRoom}
+use Rattle.grammar.specs.Records.{linkRoom, paramRoom}
 use Rattle.tables.specs.Table.{firstOf, countOf, linkAt, linksFrom, tableOf}
 use Rattle.tables.specs.Good.{Each, each-none, each-more, Follows, Agrees, AgreeFrom, GoodLink, Good}
 use Rattle.tables.proofs.InGood.{good-link, codes-agree, follows-end}

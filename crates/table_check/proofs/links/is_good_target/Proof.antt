@@ -1,5 +1,4 @@
 -- The span is asked first, and then its octets.
-use mathlib.Core.Bool.{false}
 use borrow.Author.Needs.{needs}
 use Rattle.part_check.proofs.Deciding.{also, not-so}
 use Rattle.table_check.proofs.links.is_good_target.Statement.{statement}
