@@ -63,6 +63,26 @@ macro_rules! call {
     }};
 }
 
+/// Calls an entry over a table: the text, what stands between it and the table, the table with its
+/// counts, and the rest.
+macro_rules! ask {
+    ($copy:ident . $entry:ident ( $text:ident, $t:ident, $a:ident;
+        $($between:expr => $between_kind:ty,)*; $($rest:expr => $kind:ty,)+ ) -> $answer:ty) => {
+        call!($copy.$entry(
+            black_box($text.as_ptr()) => *const u8,
+            $text.len() => usize,
+            $($between => $between_kind,)*
+            $t.links.as_ptr() => *const usize,
+            $t.links.len() => usize,
+            $t.params.as_ptr() => *const usize,
+            $t.params.len() => usize,
+            $a.links => usize,
+            $a.params => usize,
+            $($rest => $kind,)+
+        ) -> $answer)
+    };
+}
+
 const SAMPLE: Duration = Duration::from_micros(30);
 
 struct Tables {
@@ -92,15 +112,8 @@ fn read(copy: &Copy, header: &[u8], t: &mut Tables) -> ReadAnswer {
 
 fn search(copy: &Copy, text: &[u8], t: &Tables, a: &ReadAnswer) -> TwoAnswer {
     let query = b"last";
-    call!(copy.search(
-        black_box(text.as_ptr()) => *const u8,
-        text.len() => usize,
-        t.links.as_ptr() => *const usize,
-        t.links.len() => usize,
-        t.params.as_ptr() => *const usize,
-        t.params.len() => usize,
-        a.links => usize,
-        a.params => usize,
+    ask!(copy.search(
+        text, t, a;;
         query.as_ptr() => *const u8,
         query.len() => usize,
     ) -> TwoAnswer)
@@ -109,31 +122,17 @@ fn search(copy: &Copy, text: &[u8], t: &Tables, a: &ReadAnswer) -> TwoAnswer {
 /// The context of the last link.
 fn context(copy: &Copy, text: &[u8], t: &Tables, a: &ReadAnswer) -> ContextAnswer {
     let base = b"https://example.org/";
-    call!(copy.context(
-        black_box(text.as_ptr()) => *const u8,
-        text.len() => usize,
+    ask!(copy.context(
+        text, t, a;
         base.as_ptr() => *const u8,
-        base.len() => usize,
-        t.links.as_ptr() => *const usize,
-        t.links.len() => usize,
-        t.params.as_ptr() => *const usize,
-        t.params.len() => usize,
-        a.links => usize,
-        a.params => usize,
+        base.len() => usize,;
         a.links - 1 => usize,
     ) -> ContextAnswer)
 }
 
 fn write(copy: &Copy, text: &[u8], t: &Tables, a: &ReadAnswer, out: &mut [u8]) -> TwoAnswer {
-    call!(copy.write(
-        black_box(text.as_ptr()) => *const u8,
-        text.len() => usize,
-        t.links.as_ptr() => *const usize,
-        t.links.len() => usize,
-        t.params.as_ptr() => *const usize,
-        t.params.len() => usize,
-        a.links => usize,
-        a.params => usize,
+    ask!(copy.write(
+        text, t, a;;
         out.as_mut_ptr() => *mut u8,
         out.len() => usize,
     ) -> TwoAnswer)
