@@ -2,7 +2,7 @@
 // octets tell whether two texts are the same.
 ghost use Rattle.octets.specs.Laws.{PairsTell};
 
-mod bits;
+pub mod bits;
 pub mod editions;
 pub mod sets;
 

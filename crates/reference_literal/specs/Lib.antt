@@ -1,0 +1,3 @@
+-- What the crate `reference_literal` means by its words.
+pub mod Numbers
+pub mod Groups

@@ -1,0 +1,1 @@
+-- This crate's proofs rest on the laws of `reference_sets`.

@@ -1,0 +1,66 @@
+// Judging references: the machine of RFC 3986's references run over a text, fast.
+ghost use mathlib.Core.Path.{_≡_};
+ghost use Prim.Native.Nat.{_≤_};
+ghost use lib.ListN.{length};
+ghost use lib.Seq.{slice};
+ghost use Rattle.reference_steps.specs.Machine.{run, accepts};
+ghost use Rattle.reference_scan.specs.Judges.{Judges};
+use kinds::Place;
+use kinds::Span;
+use reference_octet::accepts;
+
+mod blocks;
+mod opening;
+mod passing;
+mod walking;
+
+// The place where the judging stopped, and the state there.
+pub struct Judged {
+    pub at: Place,
+    pub state: usize,
+}
+
+fn judged_up_to(i: usize, state: usize) -> Judged
+    ensures { λ r. ⌜ (r .at .0 ≡ i) × (r .state ≡ state) ⌝ }
+{
+    Judged {
+        at: Place(i),
+        state,
+    }
+}
+
+// The state that nothing follows.
+pub const NOWHERE: usize = 54;
+
+// From a place on in the state `state`, past all octets that the machine takes, up to the first that leads nowhere or the text's end.
+pub fn judge(s: &[u8], from: Place, state: usize) -> Judged
+    requires { ⌜ from .0 ≤ length (now s) ⌝ }
+    ensures { λ r. ⌜ Judges (now (s .entry)) (from .0) state r ⌝ }
+{
+    let i = from.0;
+    let opened = opening::past_opening(s, i, state);
+    let begun = opening::past_first_block(s, opened.at.0, opened.state);
+    walking::walk(s, begun.at.0, begun.state)
+}
+
+// The state behind a part of the text.
+pub fn run_over(s: &[u8], part: Span, state: usize) -> usize
+    requires { ⌜ (part .from .0 ≤ part .to .0) × (part .to .0 ≤ length (now s)) ⌝ }
+    ensures { λ r. ⌜ r ≡ run state (slice (part .from .0) (part .to .0) (now (s .entry))) ⌝ }
+{
+    let from = part.from;
+    let to = part.to.0;
+    let j = judge(&s[..to], from, state);
+    if j.at.0 < to {
+        return NOWHERE;
+    }
+    j.state
+}
+
+// Whether a part of the text is a reference.
+pub fn is_reference(s: &[u8], part: Span) -> bool
+    requires { ⌜ (part .from .0 ≤ part .to .0) × (part .to .0 ≤ length (now s)) ⌝ }
+    ensures { λ r. ⌜ r ≡ accepts (run 0 (slice (part .from .0) (part .to .0) (now (s .entry)))) ⌝ }
+{
+    accepts(run_over(s, part, 0))
+}

@@ -1,0 +1,33 @@
+// On from any state: runs that keep it, and between them a step.
+ghost use Prim.Native.Nat.{_≤_};
+ghost use lib.ListN.{length};
+ghost use Rattle.reference_scan.specs.Judges.{Judges};
+use crate::Judged;
+use crate::judged_up_to;
+use crate::passing::past_run;
+use reference_octet::next;
+
+// No state takes a `>`, which ends most targets.
+pub fn walk(s: &[u8], from: usize, state: usize) -> Judged
+    requires { ⌜ from ≤ length (now s) ⌝ }
+    ensures { λ r. ⌜ Judges (now (s .entry)) from state r ⌝ }
+{
+    let mut i = from;
+    let mut q = state;
+    loop {
+        i = past_run(s, i, q);
+        if i == s.len() {
+            return judged_up_to(i, q);
+        }
+        let c = s[i];
+        if c == b'>' {
+            return judged_up_to(i, q);
+        }
+        let n = next(q, c);
+        if n == 54 {
+            return judged_up_to(i, q);
+        }
+        q = n;
+        i += 1;
+    }
+}

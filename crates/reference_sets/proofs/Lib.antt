@@ -1,0 +1,4 @@
+-- Laws about octets and steps that the code of each state shares.
+pub mod Has
+pub mod Moves
+pub mod Past

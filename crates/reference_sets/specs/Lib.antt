@@ -1,0 +1,2 @@
+-- What the crate `reference_sets` means by its words.
+pub mod Sets

@@ -1,0 +1,3 @@
+-- What the crate `reference_steps` means by its words.
+pub mod Machine
+pub mod Laws

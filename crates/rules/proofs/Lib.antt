@@ -1,0 +1,3 @@
+-- The laws of rules.
+pub mod Lefts
+pub mod Search
