@@ -21,4 +21,12 @@ feedOut r buffer = record { number = r .number; place = r .place; buffer = buffe
 
 -- the state that the outcomes speak of
 abbrev pub stateOf : Feeding → outcome.Feeding
-stateOf s = record { edition = s .edition; phase = s .phase; total = s .total; place = s .place }
+stateOf s =
+    record {
+      edition = s .edition;
+      phase = s .phase;
+      total = s .total;
+      place = s .place;
+      target = s .target;
+      judged = s .judged;
+    }

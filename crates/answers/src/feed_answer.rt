@@ -7,13 +7,16 @@ use crate::Refusal;
 use kinds::Place;
 
 // The number of the edition asked for; the phase of reading behind the octets gathered; how many octets counted, at most one past the
-// limit; and, within it, their place. A caller in C holds it from call to call, so that its numbers may be any.
+// limit; within it, their place; and, where they end in a target, its start and the state of its judging as a reference. A caller in C
+// holds it from call to call, so that its numbers may be any.
 #[repr(C)]
 pub struct Feeding {
     pub edition: usize,
     pub phase: usize,
     pub total: usize,
     pub place: usize,
+    pub target: usize,
+    pub judged: usize,
 }
 
 // The octets so far begin a header, they begin none and have this place, or why the feed is refused otherwise; and the next state.

@@ -7,7 +7,7 @@ ghost use Rattle.outcomes.specs.Number.{limit};
 ghost use Rattle.outcomes.specs.Feeding.{start, movedTo, FeedsIn, Feeds, FinishesIn, Finishes};
 ghost use Rattle.answers.specs.Read.{readNumbers, readOut};
 ghost use Rattle.answers.specs.Feed.{feedNumbers, feedOut, stateOf};
-ghost use Rattle.feeding.specs.Taking.{Takes};
+ghost use Rattle.feeding.specs.Taking.{Takes, heldSpot};
 use answers::LIMIT;
 use answers::Refusal;
 use answers::feed_answer::FeedAnswer;
@@ -21,6 +21,7 @@ use octets::editions::Edition;
 use octets::editions::edition_of;
 use part_scan::PartScan;
 use part_scan::scan_part;
+use phases::spot::Spot;
 
 // The state that a feeding starts with, in the edition of this number, if there is one.
 pub fn start(edition: usize) -> Feeding
@@ -31,6 +32,8 @@ pub fn start(edition: usize) -> Feeding
         phase: 0,
         total: 0,
         place: 0,
+        target: 0,
+        judged: 0,
     }
 }
 
@@ -47,15 +50,24 @@ fn total_with(before: usize, more: usize) -> usize
     before + more
 }
 
-// The state behind a refusal: its edition and phase stay, and only the total and the place move.
+// The state behind a refusal: only the total and the place move.
 fn moved(state: Feeding, total: usize, place: usize) -> Feeding
-    ensures { λ r. ⌜ stateOf r ≡ movedTo (stateOf state) (state .phase) total place ⌝ }
+    ensures { λ r. ⌜ stateOf r ≡ movedTo (stateOf state) total place ⌝ }
 {
-    Feeding {
-        edition: state.edition,
+    let mut next = state;
+    next.total = total;
+    next.place = place;
+    next
+}
+
+// Where reading stands.
+fn spot_of(state: Feeding) -> Spot
+    ensures { λ r. ⌜ r ≡ heldSpot (stateOf state) ⌝ }
+{
+    Spot {
         phase: state.phase,
-        total,
-        place,
+        target: state.target,
+        judged: state.judged,
     }
 }
 
@@ -77,18 +89,21 @@ fn take(edition: Edition, state: Feeding, part: &[u8], buffer: &mut [u8]) -> Fee
 {
     let before = state.total;
     let total = before + part.len();
-    match scan_part(edition, part, state.phase) {
+    match scan_part(edition, part, before, spot_of(state)) {
         PartScan::Stuck(at) => {
             let place = before + at.0;
             FeedAnswer::Malformed(Place(place), moved(state, total, place))
         }
-        PartScan::Through(phase) => {
+        PartScan::Unfit(start) => FeedAnswer::Malformed(Place(start), moved(state, total, start)),
+        PartScan::Through(spot) => {
             putting::part::put_part(part, whole(part), buffer, OutPlace(before));
             FeedAnswer::Begun(Feeding {
                 edition: state.edition,
-                phase,
+                phase: spot.phase,
                 total,
                 place: total,
+                target: spot.target,
+                judged: spot.judged,
             })
         }
     }

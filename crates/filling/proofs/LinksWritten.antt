@@ -13,6 +13,7 @@ use borrow.Author.Tests.{eqb-true}
 use Rattle.octets.specs.Sets.{isBlank}
 use Rattle.grammar.specs.Link.{Link, Param}
 use Rattle.grammar.specs.Grammar.{Extra, Admissible, At, Field}
+use Rattle.grammar.specs.Targets.{References}
 use Rattle.grammar.specs.Kept.{keptLink, keepAfter, Reading}
 use Rattle.grammar.specs.Records.{
   linkWidth,
@@ -26,7 +27,7 @@ use Rattle.grammar.specs.Records.{
 }
 use Rattle.grammar.specs.Machine.{State, gap, target, step, dead}
 use Rattle.grammar.proofs.Rest.{Rest}
-use Rattle.grammar.proofs.Readings.{one-reading}
+use Rattle.grammar.proofs.Readings.{one-derived, one-reading}
 use Rattle.grammar.proofs.Joining.{link-records-append, param-records-append}
 use Rattle.tables.proofs.Filled.{link-records-length, param-records-length}
 use Rattle.kinds.proofs.Stores.{sets-append, sets-front}
@@ -79,7 +80,15 @@ module _ {extra : Extra} {s L₀ P₀ : List ℕ} (fits : ReadingFits extra s L�
   held-filled : {L P : List ℕ} → Admissible extra → (ls : List Link) → Field extra s (reverse ls) → LinksHeld s L₀ P₀ ls L P → TablesFilled extra s L₀ L P₀ P
   held-filled a ls f h =
       let K = ordered s ls in
-      let reads : Reading extra s K = record { links = reverse ls; derived = f; kept = refl } in
+      let read = fits .reads in
+      let reads : Reading extra s K =
+      record {
+        links = reverse ls;
+        derived = f;
+        references = subst (References s) (one-derived extra a s (read .derived) f) (read .references);
+        kept = refl;
+      }
+      in
       let same : fits .reading ≡ K = one-reading extra a s (fits .reading) K (fits .reads) reads in
       record {
         reading = K;

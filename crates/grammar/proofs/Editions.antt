@@ -92,4 +92,4 @@ module _ (extra : Extra) {s : List ℕ} where
       }
 
   pub reading-alike : {K : List Link} → Reading (further Rfc8288) s K → Reading extra s K
-  reading-alike r = record { links = r .links; derived = field-alike (r .derived); kept = r .kept }
+  reading-alike r = record { links = r .links; derived = field-alike (r .derived); references = r .references; kept = r .kept }

@@ -13,6 +13,7 @@ use borrow.Author.Tests.{eqb-true}
 use Rattle.octets.specs.Sets.{all, isBlank, isToken, isPlain, isEscapable, isTarget, isHex}
 use Rattle.grammar.specs.Link.{Link}
 use Rattle.grammar.specs.Grammar.{Extra, Admissible, Field}
+use Rattle.grammar.specs.Targets.{ReferenceAt, References}
 use Rattle.grammar.specs.Join.{Padded, padded, join, Readable}
 use Rattle.grammar.specs.Laws.{JoinsMalformed}
 use Rattle.grammar.specs.Machine.{
@@ -35,19 +36,17 @@ use Rattle.grammar.specs.Machine.{
   run,
   settle,
 }
-use Rattle.grammar.specs.Machine.{inOrder, finish}
+use Rattle.grammar.specs.Machine.{inOrder}
 use Rattle.grammar.proofs.Exact.{derived-read, read-derived}
 use Rattle.grammar.proofs.Prefix.{run-append}
+use Rattle.grammar.proofs.TargetsHeld.{never}
+use Rattle.grammar.proofs.Closing.{settled}
+use Rattle.grammar.proofs.TargetsRaised.{each-second, targets-inside, references-lowered}
 use Rattle.grammar.proofs.Raise.{raiseLink, behind, behindIn, lift, run-lift, settle-lift, map-reverseAux}
 
 both-true : (a b : Bool) → (a && b) ≡ true → (a ≡ true) × (b ≡ true)
 both-true true b e = (refl, e)
 both-true false b e = absurd (false≢true e)
-
-never : {A : Type 0} {ls : List Link} → none ≡ some ls → A
-never e =
-    let z : _≡_ {A = ℕ} 0 1 = cc in
-    absurd (omega arith)
 
 module _ (extra : Extra) (apart : Admissible extra) where
   -- SP and HTAB change nothing of where the header may end
@@ -97,7 +96,7 @@ module _ (extra : Extra) (apart : Admissible extra) where
       ∙ blanks-run t (step extra st i c) (suc i) y
       ∙ blank-step st i c x
 
-  gap-blanks : (t : List ℕ) (ls : List Link) (i : ℕ) → all isBlank t ≡ true → run extra (gap ls) i t ≡ gap ls
+  pub gap-blanks : (t : List ℕ) (ls : List Link) (i : ℕ) → all isBlank t ≡ true → run extra (gap ls) i t ≡ gap ls
   gap-blanks [] ls i e = refl
   gap-blanks (c ∷ t) ls i e =
       let (b, r) = both-true (isBlank c) (all isBlank t) e in
@@ -122,7 +121,7 @@ module _ (extra : Extra) (apart : Admissible extra) where
   comma-step dead i ls e = never e
 
   -- a text after which the header may end, with a comma and more behind it
-  comma-run : (t rest : List ℕ) (st : State) (k : ℕ) (ls : List Link) → settle (run extra st k t) (k + length t) ≡ some ls
+  pub comma-run : (t rest : List ℕ) (st : State) (k : ℕ) (ls : List Link) → settle (run extra st k t) (k + length t) ≡ some ls
       → run extra st k (t ++ 44 ∷ rest) ≡ run extra (gap ls) (k + length t + 1) rest
   comma-run t rest st k ls e =
       run-append extra t (44 ∷ rest) st k
@@ -130,7 +129,7 @@ module _ (extra : Extra) (apart : Admissible extra) where
       ∙ ap (λ (n : ℕ). run extra (gap ls) n rest) (sym (add-one (k + length t)))
 
   -- a padded header, read from a gap, is the header alone, raised
-  padded-settle : (p : Padded) (pre : List Link) (k : ℕ)
+  pub padded-settle : (p : Padded) (pre : List Link) (k : ℕ)
       → settle (run extra (gap pre) k (padded p)) (k + length (padded p))
       ≡ behindIn (k + length (p .left)) pre (settle (run extra (gap []) 0 (p .header)) (length (p .header)))
   padded-settle p pre k =
@@ -151,21 +150,11 @@ module _ (extra : Extra) (apart : Admissible extra) where
       (blanks-run (p .right) _ _ (p .right-blank)
       ∙ rw (raised, front) (settle-lift m pre (run extra (gap []) 0 (p .header)) (length (p .header))))
 
-  -- a derived header's links, last first, as the machine holds them
-  settled : (s : List ℕ) {R : List Link} → Field extra s R
-      → (ls : List Link) × (settle (run extra (gap []) 0 s) (length s) ≡ some ls) × (reverse ls ≡ R)
-  settled s {R} f = go (settle (run extra (gap []) 0 s) (length s)) refl (derived-read extra apart s f)
-    where
-      go : (x : Option (List Link)) → settle (run extra (gap []) 0 s) (length s) ≡ x → inOrder x ≡ some R
-          → (ls : List Link) × (settle (run extra (gap []) 0 s) (length s) ≡ some ls) × (reverse ls ≡ R)
-      go none q e = never e
-      go (some ls) q e = (ls, q, cc)
-
-  padded-run : (p : Padded) {R : List Link} → Field extra (p .header) R → (pre : List Link) (k : ℕ)
+  pub padded-run : (p : Padded) {R : List Link} → Field extra (p .header) R → (pre : List Link) (k : ℕ)
       → (ls : List Link) × (settle (run extra (gap pre) k (padded p)) (k + length (padded p)) ≡ some ls)
       × (reverse ls ≡ reverse pre ++ map (raiseLink (k + length (p .left))) R)
   padded-run p f pre k =
-      let (ls, q, r) = settled (p .header) f in
+      let (ls, q, r) = settled extra apart (p .header) f in
       let m = k + length (p .left) in (
         behind m pre ls,
         padded-settle p pre k ∙ ap (behindIn m pre) q,
@@ -212,7 +201,7 @@ module _ (extra : Extra) (apart : Admissible extra) where
       (ap inOrder (subst (λ (n : ℕ). settle (run extra (gap []) 0 (join (pads hs))) n ≡ some ls) end q) ∙ ap some r)
 
 pub joins-malformed : JoinsMalformed
-joins-malformed extra apart p q K r bad R f =
+joins-malformed extra apart p q K r bad R f refs =
     let (ls, e, _) = padded-run extra apart p (r .derived) [] 0 in
     let k = 0 + length (padded p) + 1 in
     let s = padded p ++ 44 ∷ padded q in
@@ -221,9 +210,32 @@ joins-malformed extra apart p q K r bad R f =
     let read : settle (run extra (gap []) 0 s) (length s) ≡ behindIn (k + length (q .left)) ls alone =
     rw (end, comma-run extra apart (padded p) (padded q) (gap []) 0 ls e) (padded-settle extra apart q ls k)
     in
-    go (k + length (q .left)) ls alone refl (subst (λ (x : Option (List Link)). inOrder x ≡ some R) read (derived-read extra apart s f))
+    go ls alone refl (subst (λ (x : Option (List Link)). inOrder x ≡ some R) read (derived-read extra apart s f))
   where
-    go : (m : ℕ) (pre : List Link) (x : Option (List Link))
-        → settle (run extra (gap []) 0 (q .header)) (length (q .header)) ≡ x → inOrder (behindIn m pre x) ≡ some R → ⊥
-    go m pre none _ e = never e
-    go m pre (some ls) a e = bad (reverse ls) (read-derived extra apart (q .header) (ap inOrder a))
+    go : (pre : List Link) (x : Option (List Link)) → settle (run extra (gap []) 0 (q .header)) (length (q .header)) ≡ x
+        → inOrder (behindIn (0 + length (padded p) + 1 + length (q .left)) pre x) ≡ some R → ⊥
+    go pre none _ e = never e
+    go pre (some ls) a e =
+        let derived = read-derived extra apart (q .header) {R = reverse ls} (ap inOrder a) in
+        let n : 0 + length (padded p) + 1 + length (q .left) ≡ length (padded p ++ 44 ∷ q .left) =
+        omega (arith, length-append (padded p) (44 ∷ q .left))
+        in
+        let w = (padded p ++ 44 ∷ q .left) ++ (q .header ++ q .right) in
+        let parted : padded p ++ 44 ∷ padded q ≡ w = simp append-assoc in
+        let raised = map (raiseLink (length (padded p ++ 44 ∷ q .left))) (reverse ls) in
+        let all : R ≡ reverse pre ++ raised = rest pre ls n e in
+        bad (reverse ls) derived
+        (references-lowered (padded p ++ 44 ∷ q .left) (q .header) (q .right) (reverse ls)
+        (targets-inside extra apart (q .header) derived)
+        (each-second (ReferenceAt w) (reverse pre) raised
+        (subst (λ (x : List ℕ). References x (reverse pre ++ raised)) parted
+        (subst (References (padded p ++ 44 ∷ padded q)) all refs))))
+      where
+        rest : (pre ls : List Link) {n k : ℕ} → n ≡ k → inOrder (behindIn n pre (some ls)) ≡ some R
+            → R ≡ reverse pre ++ map (raiseLink k) (reverse ls)
+        rest pre ls {n} {k} h e =
+            let q : reverse (behind n pre ls) ≡ R = cc in
+            sym q
+            ∙ reverse-append (map (raiseLink n) ls) pre
+            ∙ ap (λ (x : List Link). reverse pre ++ x) (map-reverseAux (raiseLink n) ls [])
+            ∙ ap (λ (x : ℕ). reverse pre ++ map (raiseLink x) (reverse ls)) h

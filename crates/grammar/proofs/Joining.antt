@@ -9,6 +9,7 @@ use lib.ListN.{length, length-append, length-map}
 use Rattle.octets.specs.Fold.{folded}
 use Rattle.grammar.specs.Link.{Link, Param}
 use Rattle.grammar.specs.Grammar.{Extra, Admissible}
+use Rattle.grammar.specs.Targets.{ReferenceAt, References}
 use Rattle.grammar.specs.Kept.{nameOf, among, codeOf, isOnce, unless, keepAfter, keptLink}
 use Rattle.grammar.specs.Records.{linkRecords, recordsOf, paramRecords, countParams}
 use Rattle.grammar.specs.Join.{
@@ -24,6 +25,7 @@ use Rattle.grammar.specs.Join.{
 }
 use Rattle.grammar.specs.Laws.{Joins}
 use Rattle.grammar.proofs.Raise.{raiseParam, raiseLink}
+use Rattle.grammar.proofs.TargetsRaised.{each-append, targets-inside, references-raised}
 use Rattle.grammar.proofs.Joined.{joinedAll, pads, joined-derived}
 use Rattle.grammar.proofs.Spans.{NamesIn, no-names, name-in, AllNamesIn, no-links, link-in, items-inside, slice-within}
 
@@ -126,6 +128,30 @@ module _ (extra : Extra) (apart : Admissible extra) where
       (kept-all (b ∷ hs) w (u ++ padded (a .pad) ++ (44 ∷ [])) (k + length (padded (a .pad)) + 1) (e ∙ simp append-assoc)
       (before-next u (padded (a .pad)) h))
 
+  -- ---- targets
+
+  -- one header's targets in the join's text w
+  one-references : (w u v : List ℕ) (a : Readable extra) (k : ℕ) → w ≡ u ++ a .pad .left ++ (a .pad .header ++ v) → length u ≡ k
+      → References w (map (raiseLink (k + length (a .pad .left))) (a .reads .links))
+  one-references w u v a k e h =
+      let n : k + length (a .pad .left) ≡ length (u ++ a .pad .left) = omega (arith, length-append u (a .pad .left)) in
+      rw (n, e)
+      (references-raised (u ++ a .pad .left) (a .pad .header) v (a .reads .links)
+      (targets-inside extra apart (a .pad .header) (a .reads .derived)) (a .reads .references))
+
+  references-all : (hs : List (Readable extra)) (w u : List ℕ) (k : ℕ) → w ≡ u ++ join (pads extra apart hs) → length u ≡ k
+      → References w (joinedAll extra apart k hs)
+  references-all [] w u k e h = tt
+  references-all (a ∷ []) w u k e h =
+      each-append (ReferenceAt w) (map (raiseLink (k + length (a .pad .left))) (a .reads .links)) []
+      (one-references w u (a .pad .right) a k (e ∙ simp append-assoc) h) tt
+  references-all (a ∷ b ∷ hs) w u k e h =
+      let J = join (pads extra apart (b ∷ hs)) in
+      each-append (ReferenceAt w) (map (raiseLink (k + length (a .pad .left))) (a .reads .links)) _
+      (one-references w u (a .pad .right ++ 44 ∷ J) a k (e ∙ simp append-assoc) h)
+      (references-all (b ∷ hs) w (u ++ padded (a .pad) ++ (44 ∷ [])) (k + length (padded (a .pad)) + 1) (e ∙ simp append-assoc)
+      (before-next u (padded (a .pad)) h))
+
 -- ---- records
 
 link-records-raised : (k m n : ℕ) (ls : List Link)
@@ -214,6 +240,7 @@ joins extra apart hs =
           record {
             links = joinedAll extra apart 0 hs;
             derived = joined-derived extra apart hs;
+            references = references-all extra apart hs (join (pads extra apart hs)) [] 0 refl refl;
             kept = sym (kept-all extra apart hs (join (pads extra apart hs)) [] 0 refl refl);
           };
       link-records = joined-links extra apart 0 0 hs;

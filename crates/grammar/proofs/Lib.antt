@@ -7,11 +7,15 @@ pub mod Exact
 pub mod Editions
 pub mod Readings
 pub mod Prefix
+pub mod TargetsHeld
+pub mod Closing
+pub mod Places
 pub mod OctetsOnly
 pub mod Codes
 pub mod Keeping
 pub mod Raise
-pub mod Joined
 pub mod Spans
+pub mod TargetsRaised
+pub mod Joined
 pub mod Joining
 pub mod Growing

@@ -1,21 +1,19 @@
--- Which texts begin a derivable header, and the place of a header.
-use Prim.Native.Nat.{ℕ, zero, suc, _+_, _-_, _≤_, _<_, min}
+-- Which texts begin a derivable header, and how long the longest prefix is that does.
+use Prim.Native.Nat.{ℕ, suc, _+_, _-_, _≤_, _<_}
 use native.Mathlib.Omega.{arith}
-use native.Mathlib.Numerals.{add-one}
 use mathlib.Core.Path.{_≡_, refl, sym, ap, subst, _∙_}
 use mathlib.Core.Bool.{Bool, true, false, true≢false, false≢true}
 use mathlib.Core.Logic.{_⊎_, inl, inr}
 use mathlib.Core.List.{List, [], _∷_, _++_}
-use mathlib.Core.Option.{Option, none, some}
+use mathlib.Core.Option.{none, some}
 use lib.Dec.{ltb}
 use borrow.Author.Tests.{ltb-true, ltb-false}
-use lib.ListN.{length, take, drop, getD, length-append, length-take}
-use lib.Seq.{take-suc, take-add, take-length, length-take-le}
+use lib.ListN.{length, take, drop}
+use lib.Seq.{take-add}
 use Rattle.octets.specs.Sets.{isBlank, isToken, isTarget, isHex, isEscapable}
 use Rattle.grammar.specs.Link.{Link}
 use Rattle.grammar.specs.Grammar.{Extra, Admissible}
-use Rattle.grammar.specs.Place.{Begins, Place}
-use Rattle.grammar.specs.Laws.{OnePlace, CutShort}
+use Rattle.grammar.specs.Place.{Begins, Longest}
 use Rattle.grammar.specs.Machine.{
   State,
   gap,
@@ -153,7 +151,7 @@ module _ (extra : Extra) (apart : Admissible extra) where
           let z : _≡_ {A = ℕ} 0 1 = cc in
           absurd (omega arith)
 
-  dead-later : (s : List ℕ) (i j : ℕ) → i ≤ j → isDead (upTo (take i s)) ≡ true → isDead (upTo (take j s)) ≡ true
+  pub dead-later : (s : List ℕ) (i j : ℕ) → i ≤ j → isDead (upTo (take i s)) ≡ true → isDead (upTo (take j s)) ≡ true
   dead-later s i j h e =
       let apart-by : j ≡ i + (j - i) = omega arith in
       let split : take j s ≡ take i s ++ take (j - i) (drop i s) =
@@ -161,43 +159,20 @@ module _ (extra : Extra) (apart : Admissible extra) where
       in
       ap (λ (u : List ℕ). isDead (upTo u)) split ∙ ap isDead (dead-on (take i s) (take (j - i) (drop i s)) e)
 
-  -- the place is where the machine lives and, unless the header ends there, dies at the next octet
-  pub place-at : (s : List ℕ) (k : ℕ) → k ≤ length s → isDead (upTo (take k s)) ≡ false
-      → (k ≡ length s) ⊎ (isDead (upTo (take (suc k) s)) ≡ true) → Place extra s k
-  place-at s k h alive d = record { within = h; begins = alive-begins (take k s) alive; longest = longest d }
+  -- the longest prefix ends where the machine lives and, unless the header ends there, dies at the next octet
+  pub longest-at : (s : List ℕ) (k : ℕ) → k ≤ length s → isDead (upTo (take k s)) ≡ false
+      → (k ≡ length s) ⊎ (isDead (upTo (take (suc k) s)) ≡ true) → Longest extra s k
+  longest-at s k h alive d = record { within = h; begins = alive-begins (take k s) alive; longest = longest d }
     where
       longest : (k ≡ length s) ⊎ (isDead (upTo (take (suc k) s)) ≡ true)
           → (j : ℕ) → k < j → j ≤ length s → Begins extra (take j s) → ⊥
       longest (inl e) j lt le b = omega arith
       longest (inr e) j lt le b = true≢false (sym (dead-later s (suc k) j lt e) ∙ begins-alive (take j s) b)
 
-  find-place : (s : List ℕ) (n i : ℕ) → i + n ≡ length s → isDead (upTo (take i s)) ≡ false → (k : ℕ) × Place extra s k
-  find-place s zero i e alive = (i, place-at s i (omega arith) alive (inl (omega arith)))
-  find-place s (suc n) i e alive = go (isDead (upTo (take (suc i) s))) refl (find-place s n (suc i) (omega arith))
-    where
-      go : (x : Bool) → isDead (upTo (take (suc i) s)) ≡ x
-          → (isDead (upTo (take (suc i) s)) ≡ false → (k : ℕ) × Place extra s k) → (k : ℕ) × Place extra s k
-      go true q more = (i, place-at s i (omega arith) alive (inr q))
-      go false q more = more q
-
-  same-place : (s : List ℕ) (j k : ℕ) → Place extra s j → Place extra s k → j ≡ k
-  same-place s j k p q = go (ltb j k) refl (ltb k j) refl
+  pub same-longest : (s : List ℕ) (j k : ℕ) → Longest extra s j → Longest extra s k → j ≡ k
+  same-longest s j k p q = go (ltb j k) refl (ltb k j) refl
     where
       go : (x : Bool) → ltb j k ≡ x → (y : Bool) → ltb k j ≡ y → j ≡ k
       go true e y f = absurd (p .longest k (ltb-true j k e) (q .within) (q .begins))
       go false e true f = absurd (q .longest j (ltb-true k j f) (p .within) (p .begins))
       go false e false f = omega (arith, ltb-false j k e, ltb-false k j f)
-
-pub one-place : OnePlace
-one-place extra apart s =
-    let (k, p) = find-place extra apart s (length s) 0 (omega arith) refl in
-    (k, p, λ j q. same-place extra apart s j k q p)
-
--- of a header that begins a derivable one, the whole is the longest such prefix
-pub cut-short : CutShort
-cut-short extra s b =
-    record {
-      within = omega arith;
-      begins = subst (λ (u : List ℕ). Begins extra u) (sym (take-length s)) b;
-      longest = λ j lt le _. omega arith;
-    }

@@ -9,6 +9,7 @@ use Rattle.octets.specs.Text.{octets}
 use Rattle.octets.specs.Fold.{folded, same}
 use Rattle.grammar.specs.Link.{Link, Param}
 use Rattle.grammar.specs.Grammar.{Extra, Field}
+use Rattle.grammar.specs.Targets.{References}
 
 -- a parameter's name, folded
 unfoldable pub nameOf : List ℕ → Param → List ℕ
@@ -62,8 +63,10 @@ keepAfter s earlier (p ∷ ps) =
 abbrev pub keptLink : List ℕ → Link → Link
 keptLink s l = record { targetFrom = l .targetFrom; targetTo = l .targetTo; params = keepAfter s [] (l .params) }
 
--- A reading of a header: the links that a derivation gives, with their kept parameters. Several derivations may share one.
+-- A reading of a header: the links that a derivation gives, all with references for targets, with their kept parameters. Several
+-- derivations may share one.
 pub record Reading (extra : Extra) (s : List ℕ) (K : List Link) : Type 0 where
   pub links : List Link
   pub derived : Field extra s links
+  pub references : References s links
   pub kept : K ≡ map (keptLink s) links

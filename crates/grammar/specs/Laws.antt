@@ -15,7 +15,7 @@ use Rattle.octets.specs.declared.editions.Edition.the-variants.{Rfc8288}
 use Rattle.grammar.specs.Link.{Link, Param}
 use Rattle.grammar.specs.Grammar.{Extra, Admissible, Field}
 use Rattle.grammar.specs.Kept.{nameOf, among, knownNames, codeOf, isOnce, keepAfter, Reading}
-use Rattle.grammar.specs.Place.{Malformed, Begins, Place}
+use Rattle.grammar.specs.Place.{Malformed, Begun, Place}
 use Rattle.grammar.specs.Join.{Padded, join, Readable, JoinReads}
 use Rattle.grammar.specs.Machine.{gap, run, finish}
 
@@ -89,9 +89,9 @@ pub record Keeps : Type 0 where
       || (same n (octets "media")
       || (same n (octets "title") || (same n (octets "title*") || (same n (octets "type") || false))))))
 
--- a header cut short, which some derivable header begins with, has its own length as place
+-- a header cut short, of which nothing is wrong so far, has its own length as place
 abbrev pub CutShort : Type 0
-CutShort = (extra : Extra) → (s : List ℕ) → Begins extra s → Place extra s (length s)
+CutShort = (extra : Extra) → (s : List ℕ) → Begun extra s → Place extra s (length s)
 
 -- every number of a derivable header is an octet
 abbrev pub OctetsOnly : Type 0

@@ -44,6 +44,23 @@ phaseOf (quote o n e v) = 10
 phaseOf (escape o n e v) = 11
 phaseOf dead = 12
 
+-- the start of the target in which the machine stands, if it stands in one
+abbrev pub openAt : State → Option ℕ
+openAt (gap ls) = none
+openAt (target ls a) = some a
+openAt (percent ls a) = some a
+openAt (hex ls a) = some a
+openAt (after o) = none
+openAt (semi o) = none
+openAt (name o n) = none
+openAt (named o n e) = none
+openAt (equals o n e) = none
+openAt (bare o n e v) = none
+openAt (wide o n e v) = none
+openAt (quote o n e v) = none
+openAt (escape o n e v) = none
+openAt dead = none
+
 -- the link just closed by `>`
 abbrev pub opened : List Link → ℕ → ℕ → Open
 opened ls a k = record { done = ls; targetFrom = a; targetTo = k; params = [] }

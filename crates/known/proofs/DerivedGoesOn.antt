@@ -13,15 +13,10 @@ use Rattle.grammar.specs.Grammar.{Extra, At, In, Field}
 use Rattle.grammar.specs.Machine.{State, dead, step, settle}
 use Rattle.grammar.proofs.Prefix.{isDead}
 use Rattle.cursor.specs.Passed.{Looked}
-use Rattle.grammar.specs.Place.{MalformedAt}
 use Rattle.scan_parts.specs.Stands.{Stands}
-use Rattle.scan_parts.proofs.Standing.{stands-on, halts-at, halts-end}
+use Rattle.scan_parts.proofs.Standing.{stands-on, dies-at, dies-end}
 
 module _ {extra : Extra} {s : List ℕ} {R : List Link} (f : Field extra s R) where
-  -- a header that is derived does not halt
-  pub goes-on : {A : Type 0} {i : ℕ} → MalformedAt extra s i → A
-  goes-on h = absurd (h .malformed R f)
-
   -- an octet of the set g must stand here
   pub must : {A : Type 0} (g : ℕ → Bool) {st : State} (new : State) {j : ℕ} → Stands extra s st j → isDead st ≡ false → settle st j ≡ none
       → ((c : ℕ) → step extra st j c ≡ cond (g c) new dead) → (In s g j → Stands extra s new (suc j) → A) → A
@@ -29,10 +24,10 @@ module _ {extra : Extra} {s : List ℕ} {R : List Link} (f : Field extra s R) wh
     where
       test : (b : Bool) → g (getD s j 0) ≡ b → j < length s → A
       test true e l = k (record { inside = l; is = e }) (stands-on new p l (on _ ∙ rw e))
-      test false e l = goes-on (halts-at p alive l (on _ ∙ rw e))
+      test false e l = absurd (dies-at p l (on _ ∙ rw e) f)
 
       go : Dec (length s ≤ j) → A
-      go (yes l) = goes-on (halts-end p alive l ends)
+      go (yes l) = absurd (dies-end p l ends f)
       go (no l) = test (g (getD s j 0)) refl (omega arith)
 
 module _ {s : List ℕ} where

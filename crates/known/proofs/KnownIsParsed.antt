@@ -1,6 +1,6 @@
 -- A value or a parameter that is known to be derived is parsed: what would be refused can't stand there.
 use Prim.Native.Nat.{ℕ, suc, _+_}
-use mathlib.Core.Path.{_≡_}
+use mathlib.Core.Path.{_≡_, refl}
 use mathlib.Core.Bool.{Bool, false, cond}
 use mathlib.Core.List.{List}
 use lib.Dec.{eqb}
@@ -8,12 +8,12 @@ use Rattle.octets.specs.Sets.{isBlank, isToken}
 use Rattle.grammar.specs.Grammar.{Extra, isBare, At}
 use Rattle.kinds.specs.declared.Span.{Span}
 use Rattle.cursor.specs.Passed.{Passed, Looked}
+use Rattle.scan_parts.proofs.Standing.{dies}
 use Rattle.scan_parts.specs.Parsed.{ParsedValue}
-use Rattle.scan_parts.proofs.ReadyBehindValue.{first-of, no-value-here, quote-starts}
-use Rattle.scan_parts.proofs.ReadyBehindParam.{no-param-here, equals-reached}
+use Rattle.scan_parts.proofs.ReadyBehindValue.{first-of, no-value-step, quote-starts}
+use Rattle.scan_parts.proofs.ReadyBehindParam.{no-name, equals-reached}
 use Rattle.scan_parts.proofs.PassedIsParsed.{FromTo, bare-parsed}
 use Rattle.known.specs.Known.{KnownQuoted, KnownValue, KnownParam}
-use Rattle.known.proofs.DerivedGoesOn.{goes-on}
 
 module _ {extra : Extra} {s : List ℕ} where
   module _ {v : ℕ} (k : KnownValue extra s v) where
@@ -39,13 +39,12 @@ module _ {extra : Extra} {s : List ℕ} where
     bare-value l f t w x z =
         bare-parsed t w
         (λ e.
-        goes-on (k .known .derived)
-        (no-value-here (k .clear) (l .not f) t w e (k .link) (k .name) (k .end) (k .known .stands)))
+        dies (k .known .stands) refl (no-value-step extra (k .clear) (l .not f) t w e (k .link) (k .name) (k .end)) (k .known .derived))
         x z
 
   module _ {a e : ℕ} (k : KnownParam extra s a) (t : Passed isToken s a e) where
     pub has-name : e ≡ a → ⊥
-    has-name q = goes-on (k .known .derived) (no-param-here (k .clear) t q (k .link) (k .known .stands))
+    has-name q = dies (k .known .stands) refl (no-name extra (k .clear) t q (k .link)) (k .known .derived)
 
     pub known-value : {i j v : ℕ} → Passed isBlank s e i → At s i 61 → j ≡ i + 1 → Passed isBlank s j v → KnownValue extra s v
     known-value b q m w =

@@ -18,8 +18,8 @@ use Rattle.tables.proofs.Texts.{inside-le}
 use Rattle.cursor.specs.Passed.{Looked}
 use Rattle.scan_parts.specs.Stands.{Stands}
 use Rattle.known.specs.Known.{KnownQuoted}
-use Rattle.scan_parts.proofs.Standing.{stands-on, halts-at, halts-end}
-use Rattle.known.proofs.DerivedGoesOn.{goes-on, must, not-seen}
+use Rattle.scan_parts.proofs.Standing.{stands-on, dies-at, dies-end}
+use Rattle.known.proofs.DerivedGoesOn.{must, not-seen}
 
 -- the inside of a quoted string, and the quote behind it
 pub record Unquoted (s : List ℕ) (i : ℕ) : Type 0 where
@@ -49,15 +49,15 @@ module _ {extra : Extra} {s : List ℕ} {R : List Link} (derived : Field extra s
         test false f false g true k l =
             let r = further (suc i) (omega arith) (stands-on (quote o n e v) p l (rw (f, g, k))) in
             record { end = r .end; inside = plain (record { inside = l; is = k }) (r .inside); closed = r .closed }
-        test false f false g false k l = goes-on derived (halts-at p refl l (rw (f, g, k)))
+        test false f false g false k l = absurd (dies-at p l (rw (f, g, k)) derived)
 
         go : Dec (length s ≤ i) → Unquoted s i
-        go (yes l) = goes-on derived (halts-end p refl l refl)
+        go (yes l) = absurd (dies-end p l refl derived)
         go (no l) =
             test (eqb (getD s i 0) 34) refl (eqb (getD s i 0) 92) refl (isPlain (getD s i 0)) refl (omega arith)
 
     quote-closes : (m i : ℕ) → length s ≤ i + m → Stands extra s (quote o n e v) i → Unquoted s i
-    quote-closes zero i h p = goes-on derived (halts-end p refl (omega arith) refl)
+    quote-closes zero i h p = absurd (dies-end p (omega arith) refl derived)
     quote-closes (suc m) i h p = quote-on m i h p (quote-closes m)
 
 -- on the way to the closing quote

@@ -18,8 +18,8 @@ use Rattle.tables.proofs.Texts.{run-le}
 use Rattle.cursor.specs.Passed.{Looked}
 use Rattle.scan_parts.specs.Stands.{Stands}
 use Rattle.known.specs.Known.{KnownTarget}
-use Rattle.scan_parts.proofs.Standing.{stands-on, halts-at, halts-end}
-use Rattle.known.proofs.DerivedGoesOn.{goes-on, must, not-seen}
+use Rattle.scan_parts.proofs.Standing.{stands-on, dies-at, dies-end}
+use Rattle.known.proofs.DerivedGoesOn.{must, not-seen}
 
 -- a target, and the `>` behind it
 pub record Closed (s : List ℕ) (i : ℕ) : Type 0 where
@@ -54,16 +54,16 @@ module _ {extra : Extra} {s : List ℕ} {R : List Link} (derived : Field extra s
         test false e true f z g l = digits l f (stands-on (percent ls b) p l (rw (e, f)))
         test false e false f true g l =
             record { end = i; inside = target-end; closed = record { inside = l; is = eqb-true _ 62 g } }
-        test false e false f false g l = goes-on derived (halts-at p refl l (rw (e, f, g)))
+        test false e false f false g l = absurd (dies-at p l (rw (e, f, g)) derived)
 
         go : Dec (length s ≤ i) → Closed s i
-        go (yes l) = goes-on derived (halts-end p refl l refl)
+        go (yes l) = absurd (dies-end p l refl derived)
         go (no l) =
             test (isTarget (getD s i 0)) refl (eqb (getD s i 0) 37) refl (eqb (getD s i 0) 62) refl (omega arith)
 
     -- with n octets left at most
     target-closes : (n i : ℕ) → length s ≤ i + n → Stands extra s (target ls b) i → Closed s i
-    target-closes zero i h p = goes-on derived (halts-end p refl (omega arith) refl)
+    target-closes zero i h p = absurd (dies-end p (omega arith) refl derived)
     target-closes (suc n) i h p = target-on n i h p (target-closes n)
 
 -- on the way to a target's `>`

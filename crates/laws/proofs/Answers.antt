@@ -1,7 +1,7 @@
 -- What entries answer to one another's results.
 use Prim.Native.Nat.{ℕ, _+_, _*_, _≤_, _<_}
 use native.Mathlib.Omega.{arith}
-use mathlib.Core.Path.{_≡_, refl, sym, ap, ap₂, subst, subst₂, _∙_}
+use mathlib.Core.Path.{_≡_, refl, sym, ap, ap₂, subst, _∙_}
 use mathlib.Core.Logic.{_⊎_, inl, inr}
 use mathlib.Core.List.{List, [], _∷_, _++_, map}
 use lib.ListN.{length, take, drop, length-append}
@@ -9,6 +9,7 @@ use lib.Seq.{take-at, take-append-seam}
 use Rattle.octets.specs.Editions.{numberOf, further}
 use Rattle.octets.specs.declared.editions.Edition.{Edition}
 use Rattle.octets.specs.declared.editions.Edition.the-variants.{Rfc8288, Rfc5988}
+use Rattle.octets.proofs.Further.{no-backslash}
 use Rattle.grammar.specs.Link.{Link}
 use Rattle.grammar.specs.Kept.{Reading}
 use Rattle.grammar.specs.Records.{linkWidth, paramWidth, linkRoom, paramRoom, linkRecords, paramRecords, countParams}
@@ -52,7 +53,8 @@ use Rattle.laws.specs.Answers.{
 }
 use Rattle.laws.specs.Answers.{Rejected, brokenJoin, octetsBefore, PlaceSettled, JoinRefused}
 use Rattle.laws.specs.Answers.{octetsOf, readTable, BackAnswers, WrittenApart}
-use Rattle.laws.proofs.Broken.{padsOf, malformed-among, front, tail, join-at, not-before, at-place}
+use Rattle.laws.proofs.Front.{front, tail, join-at, padsOf}
+use Rattle.laws.proofs.Broken.{malformed-among, not-before, at-place}
 
 -- ---- what an answer tells of the input, in the edition ed
 
@@ -86,9 +88,9 @@ module _ (ed : Edition) where
   malformed-read : {h L P : List ℕ} {out : ReadOut} → length h ≤ limit → Malformed (further ed) h → ReadIn ed h L P out → Fails h L P out
   malformed-read s m (too-long l) = absurd (omega arith)
   malformed-read s m (not-derived _ p) = record { at = p; is = refl }
-  malformed-read s m (no-link-room _ d l) = absurd (m (d .links) (d .derived))
-  malformed-read s m (no-param-room _ d l k) = absurd (m (d .links) (d .derived))
-  malformed-read s m (reads _ d l k) = absurd (m (d .links) (d .derived))
+  malformed-read s m (no-link-room _ d l) = absurd (m (d .links) (d .derived) (d .references))
+  malformed-read s m (no-param-room _ d l k) = absurd (m (d .links) (d .derived) (d .references))
+  malformed-read s m (reads _ d l k) = absurd (m (d .links) (d .derived) (d .references))
 
   -- reading answers nothing else
   one-answer : {h L P : List ℕ} {out : ReadOut} → ReadIn ed h L P out → (r : ReadOut) → ReadIn ed h L P r → r ≡ out
@@ -129,7 +131,7 @@ module _ (ed : Edition) where
       }
 
   same-pads : (hs : List (Accepted ed))
-      → padsOf ed (map readable hs) ≡ pads hs
+      → padsOf (further ed) (apart ed) (map readable hs) ≡ pads hs
   unfolding readable
   same-pads [] = refl
   same-pads (a ∷ hs) = ap (λ (ps : List Padded). a .alone .pad ∷ ps) (same-pads hs)
@@ -197,16 +199,32 @@ module _ (ed : Edition) where
   broken hs b gs L P short r a =
       record {
         answer = fails .is;
-        not-before = omega (arith, before, not-before ed (map readable hs) q B (b .alone .out .place) (r .place) (bad .at .place) place);
-        place = λ c. at-place ed (map readable hs) q B (b .alone .out .place) (r .place) (bad .at .place) place (shown c)
+        not-before =
+            omega (
+              arith,
+              before,
+              not-before (further ed) (apart ed) (no-backslash ed) H q G (b .alone .out .place) (r .place) (bad .at .place) place,
+            );
+        place =
+            λ c. at-place (further ed) (apart ed) (no-backslash ed) H q G (b .alone .out .place) (r .place) (bad .at .place) place (shown c)
             ∙ ap (λ (n : ℕ). n + b .alone .out .place) before;
       }
     where
       q : Padded
       q = b .alone .pad
 
-      B : List ℕ
-      B = q .right ++ tail (pads gs)
+      H : List (Readable (further ed))
+      H = map readable hs
+
+      G : List (Readable (further ed))
+      G = map readable gs
+
+      -- the join, as what stands before the malformed header, the header, and what stands behind it
+      text : List Padded → List Padded → List ℕ
+      text ps qs = front ps (q .left) ++ (q .header ++ (q .right ++ tail qs))
+
+      parted : brokenJoin hs b gs ≡ text (padsOf (further ed) (apart ed) H) (padsOf (further ed) (apart ed) G)
+      parted = join-at (pads hs) q (pads gs) ∙ sym (ap₂ text (same-pads hs) (same-pads gs))
 
       bad : Fails (q .header) (b .alone .linkSlots) (b .alone .paramSlots) (b .alone .out)
       bad = read-malformed (in-known refl (b .alone .answered)) (b .malformed)
@@ -214,22 +232,22 @@ module _ (ed : Edition) where
       fails : Fails (brokenJoin hs b gs) L P r
       fails =
           malformed-read short
-          (subst₂ (λ (ps qs : List Padded). Malformed (further ed) (join (ps ++ q ∷ qs))) (same-pads hs) (same-pads gs)
-          (malformed-among ed (map readable hs) q (map readable gs) (bad .at .malformed))) a
+          (subst (Malformed (further ed)) (sym parted)
+          (malformed-among (further ed) (apart ed) (no-backslash ed) H q G (bad .at))) a
 
-      place : Place (further ed) (front (padsOf ed (map readable hs)) (q .left) ++ (q .header ++ B)) (r .place)
-      place =
-          subst (λ (s : List ℕ). Place (further ed) s (r .place))
-          (join-at (pads hs) q (pads gs)
-          ∙ ap (λ (ps : List Padded). front ps (q .left) ++ (q .header ++ B)) (sym (same-pads hs)))
-          (fails .at .place)
+      place : Place (further ed) (text (padsOf (further ed) (apart ed) H) (padsOf (further ed) (apart ed) G)) (r .place)
+      place = subst (λ (s : List ℕ). Place (further ed) s (r .place)) parted (fails .at .place)
 
-      before : length (front (padsOf ed (map readable hs)) (q .left)) ≡ octetsBefore hs b
+      before : length (front (padsOf (further ed) (apart ed) H) (q .left)) ≡ octetsBefore hs b
       before = ap (λ (ps : List Padded). length (front ps (q .left))) (same-pads hs) ∙ long-front hs b
 
-      shown : PlaceSettled b gs → (b .alone .out .place < length (q .header)) ⊎ (B ≡ [])
+      shown : PlaceSettled b gs
+          → (b .alone .out .place < length (q .header)) ⊎ (q .right ++ tail (padsOf (further ed) (apart ed) G) ≡ [])
       shown (inl l) = inl l
-      shown (inr (e, z)) = inr (ap₂ (λ (x : List ℕ) (ys : List (Accepted ed)). x ++ tail (pads ys)) e z)
+      shown (inr (e, z)) =
+          inr
+          (ap (λ (qs : List Padded). q .right ++ tail qs) (same-pads gs)
+          ∙ ap₂ (λ (x : List ℕ) (ys : List (Accepted ed)). x ++ tail (pads ys)) e z)
 
 pub join-answers : JoinAnswers
 join-answers ed hs L P short links params r a = joined ed hs L P short links params r (in-known refl a)

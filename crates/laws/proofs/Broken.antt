@@ -1,201 +1,206 @@
--- A malformed header among derivable ones: their join is malformed, and at which place. All but the malformed header that stands
--- before a derivable one follows from the laws of joining.
+-- A malformed header among accepted ones: their join is malformed, and at which place.
 use Prim.Native.Nat.{ℕ, suc, _+_, _-_, _≤_, _<_}
 use native.Mathlib.Omega.{arith}
+use native.Mathlib.Decide.{decLt}
 use mathlib.Core.Path.{_≡_, refl, sym, ap, subst, _∙_}
-use mathlib.Core.Bool.{Bool, true, false}
+use mathlib.Core.Bool.{false}
 use mathlib.Core.Logic.{_⊎_, inl, inr}
-use mathlib.Core.List.{List, [], _∷_, _++_, map, append-nil, append-assoc, map-append}
-use lib.Dec.{ltb}
+use mathlib.Core.List.{List, [], _∷_, _++_, append-nil, append-assoc}
+use mathlib.Core.Option.{Option, none, some}
 use lib.ListN.{length, take, drop, length-append}
-use lib.Seq.{take-append-add, take-append-le, take-add}
-use borrow.Author.Tests.{ltb-true, ltb-false}
-use Rattle.octets.specs.Editions.{further}
-use Rattle.octets.specs.declared.editions.Edition.{Edition}
-use Rattle.octets.proofs.Further.{no-backslash}
+use lib.Seq.{take-add}
+use Rattle.references.specs.AppendixA.{IsReference}
 use Rattle.grammar.specs.Link.{Link}
-use Rattle.grammar.specs.Grammar.{Field}
-use Rattle.grammar.specs.Kept.{keptLink, Reading}
-use Rattle.grammar.specs.Place.{Malformed, Begins, Place}
-use Rattle.grammar.specs.Join.{Padded, padded, join, Readable}
-use Rattle.grammar.proofs.Editions.{apart}
-use Rattle.grammar.proofs.Readings.{decided}
-use Rattle.grammar.proofs.Joined.{joined-derived, joins-malformed}
-use Rattle.laws.specs.Laws.{bare}
-use Rattle.laws.proofs.Beside.{malformed-first}
+use Rattle.grammar.specs.Grammar.{Extra, Admissible, Field}
+use Rattle.grammar.specs.Targets.{ReferenceAt}
+use Rattle.grammar.specs.Place.{Malformed, Begins, Longest, Faulty, NoneFaulty, Place, at-target, at-longest, MalformedAt}
+use Rattle.grammar.specs.Join.{Padded, Readable}
+use Rattle.grammar.specs.Machine.{State, gap, run, settle, inOrder}
+use Rattle.grammar.proofs.Exact.{read-derived}
+use Rattle.grammar.proofs.Prefix.{run-append}
+use Rattle.grammar.proofs.Closing.{Shut, settled, derived-shut, shut-front, shut-ordered, shut-later}
+use Rattle.grammar.proofs.Places.{judged, shut-faulty, faulty-shut, faulty-malformed}
+use Rattle.grammar.proofs.TargetsRaised.{each-map, slice-front}
+use Rattle.grammar.proofs.TargetsHeld.{never}
+use Rattle.grammar.proofs.Raise.{behindIn}
+use Rattle.grammar.proofs.Growing.{begins-front}
+use Rattle.grammar.proofs.Joined.{joined-derived, padded-settle}
+use Rattle.laws.proofs.Beside.{underived-first}
+use Rattle.laws.proofs.Front.{front, tail, padsOf, front-run, front-reading}
+use Rattle.laws.proofs.Inside.{begins-behind, begins-alone, upto, faulty-raised, FaultyInside, faulty-lowered}
+use Rattle.laws.proofs.Behind.{begins-later}
 
--- a join in two parts
-join-append : (p : Padded) (ps : List Padded) (q : Padded) (qs : List Padded)
-    → join ((p ∷ ps) ++ q ∷ qs) ≡ join (p ∷ ps) ++ 44 ∷ join (q ∷ qs)
-join-append p [] q qs = refl
-join-append p (r ∷ ps) q qs =
-    ap (λ (x : List ℕ). padded p ++ 44 ∷ x) (join-append r ps q qs)
-    ∙ sym (append-assoc (padded p) (44 ∷ join (r ∷ ps)) (44 ∷ join (q ∷ qs)))
+module _ (extra : Extra) (apart : Admissible extra) (back : extra 92 ≡ false) (hs : List (Readable extra)) (q : Padded)
+    (gs : List (Readable extra)) where
+  -- the octets before the header, the header, those behind it, and all of them
+  abbrev A : List ℕ
+  A = front (padsOf extra apart hs) (q .left)
 
--- the octets of a join before a header, which has the blanks l before it
-abbrev pub front : List Padded → List ℕ → List ℕ
-front [] l = l
-front (p ∷ ps) l = padded p ++ 44 ∷ front ps l
+  abbrev h : List ℕ
+  h = q .header
 
--- and those behind the blanks after it
-abbrev pub tail : List Padded → List ℕ
-tail [] = []
-tail (q ∷ qs) = 44 ∷ join (q ∷ qs)
+  abbrev B : List ℕ
+  B = q .right ++ tail (padsOf extra apart gs)
 
-pub join-at : (ps : List Padded) (q : Padded) (qs : List Padded)
-    → join (ps ++ q ∷ qs) ≡ front ps (q .left) ++ (q .header ++ (q .right ++ tail qs))
-join-at [] q [] =
-    append-assoc (q .left) (q .header) (q .right)
-    ∙ ap (λ (x : List ℕ). q .left ++ (q .header ++ x)) (sym (append-nil (q .right)))
-join-at [] q (p ∷ qs) =
-    append-assoc (q .left ++ q .header) (q .right) (tail (p ∷ qs))
-    ∙ append-assoc (q .left) (q .header) (q .right ++ tail (p ∷ qs))
-join-at (p ∷ []) q qs =
-    ap (λ (x : List ℕ). padded p ++ 44 ∷ x) (join-at [] q qs)
-    ∙ sym (append-assoc (padded p) (44 ∷ q .left) (q .header ++ (q .right ++ tail qs)))
-join-at (p ∷ r ∷ ps) q qs =
-    ap (λ (x : List ℕ). padded p ++ 44 ∷ x) (join-at (r ∷ ps) q qs)
-    ∙ sym (append-assoc (padded p) (44 ∷ front (r ∷ ps) (q .left)) (q .header ++ (q .right ++ tail qs)))
+  abbrev pub s : List ℕ
+  s = A ++ (h ++ B)
 
-module _ (ed : Edition) where
-  abbrev pub padsOf : List (Readable (further ed)) → List Padded
-  padsOf hs = map (λ (r : Readable (further ed)). r .pad) hs
+  long : length s ≡ length A + length h + length B
+  long = omega (arith, length-append A (h ++ B), length-append h B)
 
-  -- a derived header, with nothing before and after it
-  whole : (s : List ℕ) {R : List Link} → Field (further ed) s R → Reading (further ed) s (map (keptLink s) R)
-  whole s {R} f = record { links = R; derived = f; kept = refl }
+  -- the links of the headers before, last first, behind which the machine stands before an item
+  abbrev before : List Link
+  before = front-run extra apart hs (q .left) (q .left-blank) [] 0 .0
 
-  abbrev unpadded : (s : List ℕ) {R : List Link} → Field (further ed) s R → Readable (further ed)
-  unpadded s {R} f = record { pad = bare s; reading = map (keptLink s) R; reads = whole s f }
+  stands : run extra (gap []) 0 A ≡ gap before
+  stands = front-run extra apart hs (q .left) (q .left-blank) [] 0 .1
 
-  -- the same octets are derived
-  same : {s t : List ℕ} {R : List Link} → s ≡ t → Field (further ed) s R → Field (further ed) t R
-  same {R = R} e f = subst (λ (x : List ℕ). Field (further ed) x R) e f
+  -- ---- faulty targets
+
+  -- the octets before the header have a reading, so that no target of theirs is faulty
+  none-before : (b j : ℕ) → Faulty extra s b j → j < length A → ⊥
+  none-before b j f l =
+      let (K, r) = front-reading extra apart hs (q .left) (q .left-blank) in
+      faulty-malformed extra apart (shut-front extra A (h ++ B) l (faulty-shut extra apart f))
+      (λ x. f .no-reference (subst IsReference (sym (slice-front A (h ++ B) b j (omega arith))) x))
+      (r .links) (r .derived) (r .references)
+
+  -- those up to the header's end are its own
+  its-own : {b j : ℕ} → Faulty extra s b j → j < length A + length h → FaultyInside extra apart A before stands h B b j
+  its-own {b} {j} f l = go (decLt j (length A))
+    where
+      go : Dec (j < length A) → FaultyInside extra apart A before stands h B b j
+      go (yes m) = absurd (none-before b j f m)
+      go (no m) = faulty-lowered extra apart A before stands h B f (omega arith) l
+
+  raised : {a n : ℕ} → Faulty extra h a n → Faulty extra s (length A + a) (length A + n)
+  raised f = faulty-raised extra apart A before stands h B f
+
+  -- the others begin behind it
+  later : {b j : ℕ} → Faulty extra s b j → length A + length h ≤ j → length A + length h ≤ b
+  later {b} {j} f l =
+      let n : length (A ++ h) ≡ length A + length h = length-append A h in
+      let x = subst (λ (t : List ℕ). Shut extra t b j) (sym (append-assoc A h B)) (faulty-shut extra apart f) in
+      omega (arith, n, begins-later extra apart back (A ++ h) (q .right) (q .right-blank) gs x (omega arith))
 
   -- ---- malformed
 
-  -- blanks round a malformed header mend nothing: an empty header before them would make a malformed join of two derivable ones
-  malformed-padded : (q : Padded) → Malformed (further ed) (q .header) → Malformed (further ed) (padded q)
-  malformed-padded q bad R f =
-      let none : Field (further ed) [] [] = joined-derived (further ed) (apart ed) [] in
-      let both = joined-derived (further ed) (apart ed) (unpadded [] none ∷ unpadded (padded q) f ∷ []) in
-      joins-malformed (further ed) (apart ed) (bare []) q _ (whole [] none) bad _
-      (same (ap (λ (s : List ℕ). 44 ∷ s) (append-nil (padded q))) both)
-
-  malformed-last : (hs : List (Readable (further ed))) (q : Padded) → Malformed (further ed) (q .header)
-      → Malformed (further ed) (join (padsOf hs ++ q ∷ []))
-  malformed-last [] q bad = malformed-padded q bad
-  malformed-last (h ∷ hs) q bad =
-      let J = join (padsOf (h ∷ hs)) in
-      let two : Malformed (further ed) ((J ++ []) ++ 44 ∷ padded q) =
-      joins-malformed (further ed) (apart ed) (bare J) q _ (whole J (joined-derived (further ed) (apart ed) (h ∷ hs))) bad
-      in
-      subst (Malformed (further ed))
-      (ap (λ (x : List ℕ). x ++ 44 ∷ padded q) (append-nil J) ∙ sym (join-append (h .pad) (padsOf hs) q [])) two
-
-  pub malformed-among : (hs : List (Readable (further ed))) (q : Padded) (gs : List (Readable (further ed))) → Malformed (further ed) (q .header)
-      → Malformed (further ed) (join (padsOf hs ++ q ∷ padsOf gs))
-  malformed-among hs q [] bad = malformed-last hs q bad
-  malformed-among hs q (g ∷ gs) bad =
-      subst (Malformed (further ed)) (sym (parted hs))
-      (malformed-first (further ed) (apart ed) (no-backslash ed) _ _ (malformed-last hs q bad) (joined-derived (further ed) (apart ed) (g ∷ gs)))
+  -- a header without faulty targets is malformed only if it isn't derived
+  underived : NoneFaulty extra h → Malformed extra h → (R : List Link) → Field extra h R → ⊥
+  underived n bad R f =
+      bad R f
+      (each-map {P = Shut extra h} {Q = ReferenceAt h} R (λ a k x. right a k x (judged h a k)) (derived-shut extra apart h f))
     where
-      parted : (hs : List (Readable (further ed)))
-          → join (padsOf hs ++ q ∷ padsOf (g ∷ gs)) ≡ join (padsOf hs ++ q ∷ []) ++ 44 ∷ join (padsOf (g ∷ gs))
-      parted [] = refl
-      parted (h ∷ hs) =
-          ap join (sym (append-assoc (padsOf (h ∷ hs)) (q ∷ []) (padsOf (g ∷ gs))))
-          ∙ join-append (h .pad) (padsOf hs ++ q ∷ []) (g .pad) (padsOf gs)
+      right : (a k : ℕ) → Shut extra h a k → ReferenceAt h a k ⊎ (ReferenceAt h a k → ⊥) → ReferenceAt h a k
+      right a k x (inl r) = r
+      right a k x (inr w) = absurd (n a k (shut-faulty extra apart x w))
+
+  unsettled : ((R : List Link) → Field extra h R → ⊥) → settle (run extra (gap []) 0 h) (length h) ≡ none
+  unsettled bad = go (settle (run extra (gap []) 0 h) (length h)) refl
+    where
+      go : (x : Option (List Link)) → settle (run extra (gap []) 0 h) (length h) ≡ x
+          → settle (run extra (gap []) 0 h) (length h) ≡ none
+      go none e = e
+      go (some ls) e = absurd (bad _ (read-derived extra apart h (ap inOrder e)))
+
+  -- what isn't derived alone isn't derived among others
+  underived-among : settle (run extra (gap []) 0 h) (length h) ≡ none → (R : List Link) → Field extra s R → ⊥
+  underived-among e R f = go gs f
+    where
+      W : List ℕ
+      W = A ++ (h ++ q .right)
+
+      p : Padded
+      p = record { left = []; header = h; right = q .right; left-blank = refl; right-blank = q .right-blank }
+
+      end : length W ≡ 0 + length A + length (h ++ q .right)
+      end = omega (arith, length-append A (h ++ q .right))
+
+      none-yet : settle (run extra (gap []) 0 W) (length W) ≡ none
+      none-yet =
+          ap (λ (x : State). settle x (length W))
+          (run-append extra A (h ++ q .right) (gap []) 0 ∙ ap (λ (x : State). run extra x (0 + length A) (h ++ q .right)) stands)
+          ∙ ap (settle (run extra (gap before) (0 + length A) (h ++ q .right))) end
+          ∙ padded-settle extra apart p before (0 + length A)
+          ∙ ap (behindIn (0 + length A + 0) before) e
+
+      go : (ks : List (Readable extra)) → Field extra (A ++ (h ++ (q .right ++ tail (padsOf extra apart ks)))) R → ⊥
+      go [] g =
+          let (ls, x, _) = settled extra apart W (subst (λ (t : List ℕ). Field extra (A ++ (h ++ t)) R) (append-nil (q .right)) g) in
+          never (sym none-yet ∙ x)
+      go (k ∷ ks) g =
+          let t = tail (padsOf extra apart (k ∷ ks)) in
+          let parted : A ++ (h ++ (q .right ++ t)) ≡ W ++ t =
+          ap (λ (x : List ℕ). A ++ x) (sym (append-assoc h (q .right) t)) ∙ sym (append-assoc A (h ++ q .right) t)
+          in
+          underived-first extra apart back W _ none-yet (joined-derived extra apart (k ∷ ks)) R
+          (subst (λ (x : List ℕ). Field extra x R) parted g)
+
+  pub malformed-among : {k : ℕ} → MalformedAt extra h k → Malformed extra s
+  malformed-among m = go (m .place)
+    where
+      go : {k : ℕ} → Place extra h k → Malformed extra s
+      go (at-target f least) = faulty-malformed extra apart (faulty-shut extra apart (raised f)) (raised f .no-reference)
+      go (at-longest n p) = λ R f _. underived-among (unsettled (underived n (m .malformed))) R f
 
   -- ---- the place
 
-  -- the header q of a join of derivable ones, with another header in its stead and nothing behind
-  module _ (hs : List (Readable (further ed))) (q : Padded) where
-    abbrev A : List ℕ
-    A = front (padsOf hs) (q .left)
+  -- behind the first octet of the header with which nothing begins any more, nothing begins
+  none-further : {k : ℕ} → Longest extra h k → k < length h → (j : ℕ) → length A + k < j → Begins extra (take j s) → ⊥
+  none-further {k} p l j m b =
+      let n = length A + suc k in
+      let parts : j ≡ n + (j - n) = omega arith in
+      let split : take j s ≡ A ++ take (suc k) h ++ take (j - n) (drop n s) =
+      ap (λ (i : ℕ). take i s) parts ∙ take-add n (j - n) s
+      ∙ ap (λ (x : List ℕ). x ++ take (j - n) (drop n s)) (upto extra apart A before stands h B (suc k) (omega arith))
+      in
+      p .longest (suc k) (omega arith) (omega arith)
+      (begins-alone extra apart A before stands (take (suc k) h)
+      (begins-front extra (A ++ take (suc k) h) (take (j - n) (drop n s)) (subst (Begins extra) split b)))
 
-    abbrev instead : List ℕ → Padded
-    instead u = record { left = q .left; header = u; right = []; left-blank = q .left-blank; right-blank = refl }
+  pub not-before : (k r : ℕ) → Place extra h k → Place extra s r → length A + k ≤ r
+  not-before k r (at-target {k = n} f least) (at-target {k = j} g smallest) = go (decLt j (length A + length h))
+    where
+      go : Dec (j < length A + length h) → length A + k ≤ r
+      go (yes l) = let w = its-own g l in omega (arith, least (w .start) (w .end) (w .faulty), w .starts)
+      go (no l) =
+          let x = faulty-shut extra apart f in
+          omega (
+            arith,
+            shut-ordered extra x,
+            shut-later extra (faulty-shut extra apart (raised f)) (faulty-shut extra apart g) (omega (arith, x .inside)),
+          )
+  not-before k r (at-target f least) (at-longest clean p) = absurd (clean _ _ (raised f))
+  not-before k r (at-longest clean p) (at-target {k = j} g smallest) = go (decLt j (length A + length h))
+    where
+      go : Dec (j < length A + length h) → length A + k ≤ r
+      go (yes l) = let w = its-own g l in absurd (clean (w .start) (w .end) (w .faulty))
+      go (no l) = omega (arith, p .within, later g (omega arith))
+  not-before k r (at-longest clean p) (at-longest also o) = go (decLt r (length A + k))
+    where
+      go : Dec (r < length A + k) → length A + k ≤ r
+      go (yes l) =
+          absurd
+          (o .longest (length A + k) l (omega (arith, p .within, long))
+          (subst (Begins extra) (sym (upto extra apart A before stands h B k (p .within)))
+          (begins-behind extra apart A before stands (take k h) (p .begins))))
+      go (no l) = omega arith
 
-    joined : (u : List ℕ) → join (padsOf hs ++ instead u ∷ []) ≡ A ++ u
-    joined u = join-at (padsOf hs) (instead u) [] ∙ ap (λ (x : List ℕ). A ++ x) (append-nil u)
-
-    begins-behind : (u : List ℕ) → Begins (further ed) u → Begins (further ed) (A ++ u)
-    begins-behind u b =
-        let v = u ++ b .rest in
-        let h : Readable (further ed) = record { pad = instead v; reading = _; reads = whole v (b .derived) } in
-        let e : join (padsOf (hs ++ h ∷ [])) ≡ A ++ u ++ b .rest =
-        ap join (map-append (λ (r : Readable (further ed)). r .pad) hs (h ∷ [])) ∙ joined v ∙ sym (append-assoc A u (b .rest))
-        in
-        record {
-          rest = b .rest;
-          links = _;
-          derived = same e (joined-derived (further ed) (apart ed) (hs ++ h ∷ []));
-        }
-
-    -- what begins nothing alone begins nothing in the join either
-    begins-alone : (u : List ℕ) → Begins (further ed) (A ++ u) → Begins (further ed) u
-    begins-alone u b = go (decided (further ed) (apart ed) (u ++ b .rest))
-      where
-        go : ((K : List Link) × Reading (further ed) (u ++ b .rest) K) ⊎ Malformed (further ed) (u ++ b .rest) → Begins (further ed) u
-        go (inl (K, r)) = record { rest = b .rest; links = r .links; derived = r .derived }
-        go (inr bad) =
-            absurd
-            (subst (Malformed (further ed)) (joined (u ++ b .rest) ∙ sym (append-assoc A u (b .rest)))
-            (malformed-last hs (instead (u ++ b .rest)) bad) (b .links) (b .derived))
-
-    begins-less : (u v : List ℕ) → Begins (further ed) (u ++ v) → Begins (further ed) u
-    begins-less u v b =
-        record {
-          rest = v ++ b .rest;
-          links = b .links;
-          derived = same (append-assoc u v (b .rest)) (b .derived);
-        }
-
-    -- of the join, whose octets behind the header are B
-    module _ (B : List ℕ) (k r : ℕ) (alone : Place (further ed) (q .header) k) (place : Place (further ed) (A ++ (q .header ++ B)) r) where
-      abbrev s : List ℕ
-      s = A ++ (q .header ++ B)
-
-      long : length s ≡ length A + length (q .header) + length B
-      long = omega (arith, length-append A (q .header ++ B), length-append (q .header) B)
-
-      upto : (n : ℕ) → n ≤ length (q .header) → take (length A + n) s ≡ A ++ take n (q .header)
-      upto n h =
-          take-append-add A (q .header ++ B) n ∙ ap (λ (x : List ℕ). A ++ x) (take-append-le n (q .header) B h)
-
-      pub not-before : length A + k ≤ r
-      not-before = go (ltb r (length A + k)) refl
-        where
-          go : (b : Bool) → ltb r (length A + k) ≡ b → length A + k ≤ r
-          go true e =
-              absurd
-              (place .longest (length A + k) (ltb-true r (length A + k) e) (omega (arith, alone .within, long))
-              (subst (Begins (further ed)) (sym (upto k (alone .within))) (begins-behind (take k (q .header)) (alone .begins))))
-          go false e = omega (arith, ltb-false r (length A + k) e)
-
-      pub at-place : (k < length (q .header)) ⊎ (B ≡ []) → r ≡ length A + k
-      at-place c = go c (ltb (length A + k) r) refl
-        where
-          -- one octet more of the header begins nothing
-          more : length A + k < r → k < length (q .header) → ⊥
-          more l h =
-              let m = length A + suc k in
-              let parts : r ≡ m + (r - m) = omega arith in
-              let split : take r s ≡ A ++ take (suc k) (q .header) ++ take (r - m) (drop m s) =
-              ap (λ (n : ℕ). take n s) parts ∙ take-add m (r - m) s
-              ∙ ap (λ (x : List ℕ). x ++ take (r - m) (drop m s)) (upto (suc k) (omega arith))
-              in
-              alone .longest (suc k) (omega arith) (omega arith)
-              (begins-alone (take (suc k) (q .header)) (begins-less _ _ (subst (Begins (further ed)) split (place .begins))))
-
-          short : B ≡ [] → length B ≡ 0
-          short e = ap length e
-
-          go : (k < length (q .header)) ⊎ (B ≡ []) → (b : Bool) → ltb (length A + k) r ≡ b → r ≡ length A + k
-          go (inl h) true e = absurd (more (ltb-true (length A + k) r e) h)
-          go (inr z) true e =
-              absurd
-              (more (ltb-true (length A + k) r e)
-              (omega (arith, ltb-true (length A + k) r e, place .within, long, short z)))
-          go c false e = omega (arith, ltb-false (length A + k) r e, not-before)
+  pub at-place : (k r : ℕ) → Place extra h k → Place extra s r → (k < length h) ⊎ (B ≡ []) → r ≡ length A + k
+  at-place k r (at-target f least) (at-target g smallest) c =
+      omega (arith, smallest _ _ (raised f), not-before k r (at-target f least) (at-target g smallest))
+  at-place k r (at-target f least) (at-longest clean p) c = absurd (clean _ _ (raised f))
+  at-place k r (at-longest clean p) (at-target {k = j} g smallest) c = go c (decLt j (length A + length h))
+    where
+      go : (k < length h) ⊎ (B ≡ []) → Dec (j < length A + length h) → r ≡ length A + k
+      go c (yes l) = let w = its-own g l in absurd (clean (w .start) (w .end) (w .faulty))
+      go (inl m) (no l) =
+          let x = g .closed in
+          absurd (none-further p m (suc j) (omega arith) (record { rest = x .rest; links = x .links; derived = x .derived }))
+      go (inr z) (no l) = absurd (omega (arith, g .closed .inside, long, ap length z))
+  at-place k r (at-longest clean p) (at-longest also o) c = go (decLt (length A + k) r) c
+    where
+      go : Dec (length A + k < r) → (k < length h) ⊎ (B ≡ []) → r ≡ length A + k
+      go (yes l) (inl m) = absurd (none-further p m r l (o .begins))
+      go (yes l) (inr z) = absurd (none-further p (omega (arith, o .within, long, ap length z)) r l (o .begins))
+      go (no l) c = omega (arith, not-before k r (at-longest clean p) (at-longest also o))

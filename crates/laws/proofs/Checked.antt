@@ -1,14 +1,14 @@
 -- A row holds if one computed test passes: the header is run through the machine, and the table is asked and written.
-use Prim.Native.Nat.{ℕ, suc, _/_, _≤_, _<_}
+use Prim.Native.Nat.{ℕ, _/_, _≤_, _<_}
 use native.Mathlib.Omega.{arith}
 use mathlib.Core.Path.{_≡_, refl, sym, ap, subst, subst₂, _∙_}
-use mathlib.Core.Logic.{_⊎_, inl, inr, ⊎-map}
+use mathlib.Core.Logic.{_⊎_, inl, inr}
 use mathlib.Core.Bool.{Bool, true, false, _&&_, _||_, not, false≢true, true≢false}
 use mathlib.Core.List.{List, [], _∷_, _++_, map, append-nil}
 use mathlib.Core.Option.{Option, none, some}
 use lib.Dec.{leb, ltb, eqb}
-use lib.ListN.{length, take, drop}
-use borrow.Author.Tests.{leb-true, ltb-true, eqb-true, not-true}
+use lib.ListN.{length, drop}
+use borrow.Author.Tests.{leb-true, ltb-true, eqb-true}
 use Rattle.octets.specs.Fold.{same}
 use Rattle.octets.specs.Editions.{numberOf, further}
 use Rattle.octets.specs.declared.editions.Edition.{Edition}
@@ -18,10 +18,9 @@ use Rattle.grammar.specs.Link.{Link}
 use Rattle.grammar.specs.Grammar.{Extra}
 use Rattle.grammar.specs.Kept.{keptLink, Reading}
 use Rattle.grammar.specs.Records.{linkWidth, paramWidth, linkRoom, paramRoom, linkRecords, paramRecords, countParams}
-use Rattle.grammar.specs.Machine.{gap, run, finish}
+use Rattle.grammar.specs.Place.{MalformedAt}
 use Rattle.grammar.proofs.Editions.{apart}
-use Rattle.grammar.proofs.Readings.{read-reading, unread-malformed}
-use Rattle.grammar.proofs.Prefix.{isDead, upTo, place-at}
+use Rattle.grammar.proofs.Readings.{read-reading}
 use Rattle.tables.specs.Table.{Table}
 use Rattle.tables.specs.Good.{Each, each-none, each-more, Good}
 use Rattle.tables.proofs.Filled.{link-records-length, param-records-length}
@@ -35,17 +34,15 @@ use Rattle.outcomes.specs.Copy.{untouched, holding}
 use Rattle.outcomes.specs.Search.{Search, has, found}
 use Rattle.outcomes.specs.Write.{Write, writtenForm, relationsAt, Related, no-relation, wrote}
 use Rattle.laws.specs.Row.{Writing, writes, answers, Judgement, reads, malformed, Row, recordedTable, Writes, ReadHolds, Judged, RowHolds}
+use Rattle.laws.proofs.References.{areReferences, are-references}
+use Rattle.laws.proofs.Stopped.{read, either, closeOf, stops, unfit, stops-at, unfit-at}
 
 -- ---- the tests
-
--- the links that the machine reads
-abbrev read : Edition → List ℕ → Option (List Link)
-read ed h = finish (run (further ed) (gap []) 0 h) (length h)
 
 abbrev recorded : List ℕ → List ℕ → List ℕ → Option (List Link) → Bool
 recorded h ls ps none = false
 recorded h ls ps (some R) =
-    same (linkRecords 0 (map (keptLink h) R)) ls && same (paramRecords h (map (keptLink h) R)) ps
+    areReferences h R && same (linkRecords 0 (map (keptLink h) R)) ls && same (paramRecords h (map (keptLink h) R)) ps
 
 abbrev isNone : {A : Type 0} → List A → Bool
 isNone [] = true
@@ -60,23 +57,13 @@ written t (writes f) =
     every (λ i. not (isNone (relationsAt t i))) (t .linkCount) && same (writtenForm t) f && leb (length f) limit
 written t (answers n) = eqb n 6 && ltb 0 (t .linkCount) && isNone (relationsAt t 0)
 
-abbrev unread : Option (List Link) → Bool
-unread none = true
-unread (some R) = false
-
 abbrev pub checks : Edition → List ℕ → Judgement → Bool
 checks ed h (reads ls ps qs w) =
     leb (length h) limit && recorded h ls ps (read ed h) && (isNone qs || ltb 0 (length ls / linkWidth)) && asked (recordedTable h ls ps) qs
     && written (recordedTable h ls ps) w
-checks ed h (malformed k) =
-    leb (length h) limit && unread (read ed h) && leb k (length h) && not (isDead (upTo (further ed) (apart ed) (take k h)))
-    && (eqb k (length h) || isDead (upTo (further ed) (apart ed) (take (suc k) h)))
+checks ed h (malformed k) = leb (length h) limit && (stops ed h k || unfit ed h k (closeOf k (drop k h)))
 
 -- ---- what they show
-
-either : (a b : Bool) → (a || b) ≡ true → (a ≡ true) ⊎ (b ≡ true)
-either true b e = inl refl
-either false b e = inr e
 
 -- a good table, with its slots and counts named otherwise
 regood : {extra : Extra} {h L L′ P P′ : List ℕ} {n n′ m m′ : ℕ} → L ≡ L′ → P ≡ P′ → n ≡ n′ → m ≡ m′
@@ -123,9 +110,10 @@ recorded-known ed h ls ps short e = go (read ed h) refl e
     go none q e = absurd (false≢true e)
     go (some R) q e =
         let K = map (keptLink h) R in
-        let (l, p) = both (same (linkRecords 0 K) ls) (same (paramRecords h K) ps) e in
+        let (rl, p) = both (areReferences h R && same (linkRecords 0 K) ls) (same (paramRecords h K) ps) e in
+        let (r, l) = both (areReferences h R) (same (linkRecords 0 K) ls) rl in
         subst₂ (λ (x y : List ℕ). KnownRow ed h x y) (same-sound (linkRecords 0 K) ls l) (same-sound (paramRecords h K) ps p)
-        (known-row ed h short K (read-reading (further ed) (apart ed) h R q))
+        (known-row ed h short K (read-reading (further ed) (apart ed) h R q (are-references h R r)))
 
 is-none : {A : Type 0} (xs : List A) → isNone xs ≡ true → xs ≡ []
 is-none [] e = refl
@@ -160,11 +148,11 @@ written-holds ed t (writes f) u e =
     (same-sound (writtenForm t) f form) (λ a b. known {e = ed} refl (usable u (wrote (related-all t related) a b)))
     (leb-true (length f) limit short) room
 written-holds ed t (answers n) u e =
-    let (xy, bare) = both (eqb n 6 && ltb 0 (t .linkCount)) (isNone (relationsAt t 0)) e in
+    let (xy, unrelated) = both (eqb n 6 && ltb 0 (t .linkCount)) (isNone (relationsAt t 0)) e in
     let (six, links) = both (eqb n 6) (ltb 0 (t .linkCount)) xy in
     λ out.
     subst (λ (x : ℕ). Write (numberOf ed) t out (untouched out x)) (sym (eqb-true n 6 six))
-    (known {e = ed} refl (usable u (no-relation (ltb-true 0 (t .linkCount) links) (is-none (relationsAt t 0) bare))))
+    (known {e = ed} refl (usable u (no-relation (ltb-true 0 (t .linkCount) links) (is-none (relationsAt t 0) unrelated))))
 
 reads-hold : (ed : Edition) (h ls ps : List ℕ) (qs : List (List ℕ)) (w : Writing) → checks ed h (reads ls ps qs w) ≡ true
     → ReadHolds ed h ls ps qs w
@@ -187,34 +175,15 @@ reads-hold ed h ls ps qs w e =
       writing = written-holds ed t w (k .may-use) writing;
     }
 
-not-read : (ed : Edition) (h : List ℕ) → unread (read ed h) ≡ true → read ed h ≡ none
-not-read ed h e = go (read ed h) e
-  where
-    go : (x : Option (List Link)) → unread x ≡ true → x ≡ none
-    go none e = refl
-    go (some R) e = absurd (false≢true e)
-
 malformed-holds : (ed : Edition) (h : List ℕ) (k : ℕ) → checks ed h (malformed k) ≡ true → Judged ed h (malformed k)
 malformed-holds ed h k e =
-    let u = upTo (further ed) (apart ed) in
-    let (abcd, dies) =
-    both (leb (length h) limit && unread (read ed h) && leb k (length h) && not (isDead (u (take k h))))
-    (eqb k (length h) || isDead (u (take (suc k) h))) e
-    in
-    let (abc, lives) =
-    both (leb (length h) limit && unread (read ed h) && leb k (length h)) (not (isDead (u (take k h)))) abcd
-    in
-    let (ab, within) = both (leb (length h) limit && unread (read ed h)) (leb k (length h)) abc in
-    let (short, none-read) = both (leb (length h) limit) (unread (read ed h)) ab in
-    λ L P.
-    known {e = ed} refl
-    (not-derived (leb-true (length h) limit short)
-    (record {
-      malformed = unread-malformed (further ed) (apart ed) h (not-read ed h none-read);
-      place =
-          place-at (further ed) (apart ed) h k (leb-true k (length h) within) (not-true (isDead (u (take k h))) lives)
-          (⊎-map (eqb-true k (length h)) (λ d. d) (either (eqb k (length h)) (isDead (u (take (suc k) h))) dies));
-    }))
+    let j = closeOf k (drop k h) in
+    let (short, wrong) = both (leb (length h) limit) (stops ed h k || unfit ed h k j) e in
+    λ L P. known {e = ed} refl (not-derived (leb-true (length h) limit short) (at j (either (stops ed h k) (unfit ed h k j) wrong)))
+  where
+    at : (j : ℕ) → (stops ed h k ≡ true) ⊎ (unfit ed h k j ≡ true) → MalformedAt (further ed) h k
+    at j (inl x) = stops-at ed h k x
+    at j (inr x) = unfit-at ed h k j x
 
 row-holds : (ed : Edition) (r : Row) → checks ed (r .header) (r .judgement) ≡ true → RowHolds ed r
 row-holds ed r e = go (r .header) (r .judgement) e

@@ -7,9 +7,10 @@ use mathlib.Core.List.{List, [], _∷_, _++_, append-assoc}
 use lib.ListN.{length, length-append}
 use Rattle.octets.specs.Editions.{numberOf, further, NoEdition}
 use Rattle.octets.specs.declared.editions.Edition.{Edition}
-use Rattle.grammar.specs.Place.{Begins, Place}
-use Rattle.grammar.proofs.Growing.{begins-front, still-stuck}
-use Rattle.grammar.proofs.Prefix.{cut-short}
+use Rattle.grammar.specs.Place.{Begun, Place}
+use Rattle.grammar.proofs.Editions.{apart}
+use Rattle.grammar.proofs.Growing.{begun-front, still-stuck}
+use Rattle.grammar.proofs.Places.{cut-short}
 use Rattle.outcomes.specs.Number.{limit, tooLong, malformedHeader}
 use Rattle.outcomes.specs.Read
 use Rattle.outcomes.specs.Read.{ReadOut, Read, ReadIn, not-derived, no-link-room, no-param-room, reads}
@@ -77,7 +78,7 @@ tells h s (begins-none _ _ n k) = record { none-begins = λ _. n; told = λ _. r
 tells h s (begins _ _ b) = record { none-begins = λ e _. omega arith; told = λ n. absurd (n b) }
 
 -- a feed behind any list of parts, in an edition
-feed-answers-in : (e : Edition) {ps : List (List ℕ)} {part buffer : List ℕ} {st next : Feeding} {o : FeedOut}
+pub feed-answers-in : (e : Edition) {ps : List (List ℕ)} {part buffer : List ℕ} {st next : Feeding} {o : FeedOut}
     → HandedOut (numberOf e) ps buffer st → Feeds st part buffer o next → FeedIn e (whole ps) part buffer o
 feed-answers-in e {ps} d f = let h = handed-right e d .holds in feeds-in e h f .answers (whole ps) h
 
@@ -94,7 +95,7 @@ feed-tells e ps part buffer st next o d f s = tells (handed-right e d .room) s (
 
 -- 2 is answered with the place of octets that begin nothing
 stuck-if : {e : Edition} {octets part buffer : List ℕ} {o : FeedOut} → FeedIn e octets part buffer o → o .number ≡ malformedHeader
-    → (Begins (further e) (octets ++ part) → ⊥) × Place (further e) (octets ++ part) (o .place)
+    → (Begun (further e) (octets ++ part) → ⊥) × Place (further e) (octets ++ part) (o .place)
 stuck-if (small-buffer l) e = absurd (omega arith)
 stuck-if (too-long _ l) e = absurd (omega arith)
 stuck-if (begins-none _ _ n k) e = (n, k)
@@ -115,8 +116,8 @@ place-stays e ps qs part more buffer other st next su after o q d f m g h s =
     let w = whole-behind ps part qs more in
     let u = whole ps ++ part in
     let v = whole qs ++ more in
-    let none : Begins (further e) (whole (ps ++ part ∷ qs) ++ more) → ⊥ = rw w (λ b. n (begins-front (further e) u v b)) in
-    let place : Place (further e) (whole (ps ++ part ∷ qs) ++ more) (o .place) = rw w (still-stuck n p v) in
+    let none : Begun (further e) (whole (ps ++ part ∷ qs) ++ more) → ⊥ = rw w (λ b. n (begun-front (apart e) u v b)) in
+    let place : Place (further e) (whole (ps ++ part ∷ qs) ++ more) (o .place) = rw w (still-stuck (apart e) n v p) in
     let one = feed-in e (whole (ps ++ part ∷ qs)) more other .2 in
     one q (feed-answers-in e g h) ∙ sym (one _ (begins-none (handed-right e g .room) s none place))
 

@@ -11,7 +11,7 @@ use Rattle.octets.specs.declared.editions.Edition.{Edition}
 use Rattle.outcomes.specs.Number.{limit}
 use Rattle.outcomes.specs.Feed.{FeedOut}
 use Rattle.outcomes.specs.Feeding.{Feeding, Holds, over, stuck, begun, start, FeedsIn, Feeds, FinishesIn, Finishes}
-use Rattle.outcomes.specs.Feeding.{AnyFeed, small-buffer, too-long, remembered, faulty, stored}
+use Rattle.outcomes.specs.Feeding.{AnyFeed, small-buffer, too-long, remembered, faulty, unfit, stored}
 use Rattle.outcomes.specs.Read.{ReadOut}
 use Rattle.outcomes.proofs.InEdition.{in-known, in-unknown}
 use Rattle.outcomes.proofs.FeedSettled.{start-holds}
@@ -28,6 +28,7 @@ module _ {st : Feeding} {part buffer : List ℕ} where
   long-still h (too-long _ l) = h
   long-still h (remembered _ s k) = h
   long-still h (faulty _ s k i) = h
+  long-still h (unfit _ s k) = h
   long-still h (stored _ s k) =
       let n = st .total in
       let behind = drop (n + length part) buffer in
@@ -45,6 +46,7 @@ module _ {st : Feeding} {part buffer : List ℕ} where
   state-still h (too-long l _) = absurd (omega arith)
   state-still h (remembered l _ _) = absurd (omega arith)
   state-still h (faulty l _ _ _) = absurd (omega arith)
+  state-still h (unfit l _ _) = absurd (omega arith)
   state-still h (stored l _ _) = absurd (omega arith)
 
 -- what a state that is right promises of a feed and of the finish, in its edition

@@ -1,30 +1,33 @@
 -- Of a state and a buffer that are right for some octets, a feed and the finish answer and leave one thing each.
 use Prim.Native.Nat.{ℕ, _+_, _≤_}
 use native.Mathlib.Omega.{arith}
-use mathlib.Core.Path.{_≡_, refl, sym, ap, subst, _∙_}
+use mathlib.Core.Path.{_≡_, refl, sym, ap, _∙_}
 use mathlib.Core.List.{List, []}
-use lib.ListN.{length, take}
-use lib.Seq.{take-length}
+use lib.ListN.{length}
 use Rattle.octets.specs.Editions.{further}
 use Rattle.octets.specs.declared.editions.Edition.{Edition}
-use Rattle.grammar.specs.Place.{Begins}
-use Rattle.grammar.specs.Machine.{gap, run, phaseOf}
+use Rattle.grammar.specs.Machine.{gap, run, phaseOf, openAt}
+use Rattle.grammar.proofs.Editions.{apart}
+use Rattle.grammar.proofs.Growing.{before-end}
 use Rattle.outcomes.specs.Number.{limit}
 use Rattle.outcomes.specs.Read.{ReadOut}
 use Rattle.outcomes.specs.Feed.{FeedOut}
-use Rattle.outcomes.specs.Feeding.{Feeding, Holds, over, stuck, begun, movedTo, Feeds, Finishes}
-use Rattle.outcomes.specs.Feeding.{AnyFeed, small-buffer, too-long, remembered, faulty, stored}
+use Rattle.outcomes.specs.Feeding.{Feeding, Holds, over, stuck, begun, startOf, judgedOf, movedTo, Feeds, Finishes}
+use Rattle.outcomes.specs.Feeding.{AnyFeed, small-buffer, too-long, remembered, faulty, unfit, stored}
 use Rattle.outcomes.proofs.FeedSettled.{feed-in, finish-in}
 use Rattle.laws.specs.Feedings.{OneAnswer}
 use Rattle.laws.proofs.HandedRight.{feeds-in, finishes-in}
 
--- the phase of a state whose place is its total
-phase-told : {ed : Edition} {octets b : List ℕ} {s : Feeding} → Holds ed octets b s → s .place ≡ s .total → s .total ≤ limit
-    → s .phase ≡ phaseOf (run (further ed) (gap []) 0 octets)
-phase-told (over l) e h = absurd (omega arith)
-phase-told {ed} {octets} (stuck {k = k} l n p) e h =
-    absurd (n (subst (λ (u : List ℕ). Begins (further ed) u) (ap (λ (j : ℕ). take j octets) e ∙ take-length octets) (p .begins)))
-phase-told (begun l b t) e h = refl
+-- what a state whose place is its total remembers of reading
+record Told (ed : Edition) (octets : List ℕ) (s : Feeding) : Type 0 where
+  phase : s .phase ≡ phaseOf (run (further ed) (gap []) 0 octets)
+  target : s .target ≡ startOf (openAt (run (further ed) (gap []) 0 octets))
+  judged : s .judged ≡ judgedOf octets (openAt (run (further ed) (gap []) 0 octets))
+
+told : {ed : Edition} {octets b : List ℕ} {s : Feeding} → Holds ed octets b s → s .place ≡ s .total → s .total ≤ limit → Told ed octets s
+told (over l) e h = absurd (omega arith)
+told {ed} (stuck l n p) e h = absurd (omega (arith, before-end (apart ed) n p))
+told (begun l b t) e h = record { phase = refl; target = refl; judged = refl }
 
 -- one next state for one answer
 module _ (ed : Edition) {st : Feeding} {part buffer octets b c : List ℕ} where
@@ -34,29 +37,44 @@ module _ (ed : Edition) {st : Feeding} {part buffer octets b c : List ℕ} where
   same-next (small-buffer _) (too-long _ _) e f x y = absurd (omega arith)
   same-next (small-buffer _) (remembered _ _ _) e f x y = absurd (omega arith)
   same-next (small-buffer _) (faulty _ _ _ _) e f x y = absurd (omega arith)
+  same-next (small-buffer _) (unfit _ _ _) e f x y = absurd (omega arith)
   same-next (small-buffer _) (stored _ _ _) e f x y = absurd (omega arith)
   same-next (too-long _ _) (small-buffer _) e f x y = absurd (omega arith)
   same-next (too-long _ _) (too-long _ _) e f x y = refl
   same-next (too-long _ _) (remembered _ _ _) e f x y = absurd (omega arith)
   same-next (too-long _ _) (faulty _ _ _ _) e f x y = absurd (omega arith)
+  same-next (too-long _ _) (unfit _ _ _) e f x y = absurd (omega arith)
   same-next (too-long _ _) (stored _ _ _) e f x y = absurd (omega arith)
   same-next (remembered _ _ _) (small-buffer _) e f x y = absurd (omega arith)
   same-next (remembered _ _ _) (too-long _ _) e f x y = absurd (omega arith)
-  same-next (remembered _ _ _) (remembered _ _ _) e f x y = refl
-  same-next (remembered _ _ _) (faulty _ _ _ _) e f x y = ap (λ (k : ℕ). movedTo st (st .phase) (st .total + length part) k) f
+  same-next (remembered _ _ _) (remembered _ _ _) e f x y = ap (movedTo st (st .total + length part)) f
+  same-next (remembered _ _ _) (faulty _ _ _ _) e f x y = ap (movedTo st (st .total + length part)) f
+  same-next (remembered _ _ _) (unfit _ _ _) e f x y = ap (movedTo st (st .total + length part)) f
   same-next (remembered _ _ _) (stored _ _ _) e f x y = absurd (omega arith)
   same-next (faulty _ _ _ _) (small-buffer _) e f x y = absurd (omega arith)
   same-next (faulty _ _ _ _) (too-long _ _) e f x y = absurd (omega arith)
-  same-next (faulty _ _ _ _) (remembered _ _ _) e f x y = ap (λ (k : ℕ). movedTo st (st .phase) (st .total + length part) k) f
-  same-next (faulty _ _ _ _) (faulty _ _ _ _) e f x y = ap (λ (k : ℕ). movedTo st (st .phase) (st .total + length part) k) f
+  same-next (faulty _ _ _ _) (remembered _ _ _) e f x y = ap (movedTo st (st .total + length part)) f
+  same-next (faulty _ _ _ _) (faulty _ _ _ _) e f x y = ap (movedTo st (st .total + length part)) f
+  same-next (faulty _ _ _ _) (unfit _ _ _) e f x y = ap (movedTo st (st .total + length part)) f
   same-next (faulty _ _ _ _) (stored _ _ _) e f x y = absurd (omega arith)
+  same-next (unfit _ _ _) (small-buffer _) e f x y = absurd (omega arith)
+  same-next (unfit _ _ _) (too-long _ _) e f x y = absurd (omega arith)
+  same-next (unfit _ _ _) (remembered _ _ _) e f x y = ap (movedTo st (st .total + length part)) f
+  same-next (unfit _ _ _) (faulty _ _ _ _) e f x y = ap (movedTo st (st .total + length part)) f
+  same-next (unfit _ _ _) (unfit _ _ _) e f x y = ap (movedTo st (st .total + length part)) f
+  same-next (unfit _ _ _) (stored _ _ _) e f x y = absurd (omega arith)
   same-next (stored _ _ _) (small-buffer _) e f x y = absurd (omega arith)
   same-next (stored _ _ _) (too-long _ _) e f x y = absurd (omega arith)
   same-next (stored _ _ _) (remembered _ _ _) e f x y = absurd (omega arith)
   same-next (stored _ _ _) (faulty _ _ _ _) e f x y = absurd (omega arith)
-  same-next (stored _ s _) (stored _ _ _) e f x y =
-      ap (λ (p : ℕ). movedTo st p (st .total + length part) (st .total + length part))
-      (phase-told x refl s ∙ sym (phase-told y refl s))
+  same-next (stored _ _ _) (unfit _ _ _) e f x y = absurd (omega arith)
+  same-next (stored {p = p} {a = a} {q = q} _ s _) (stored {p = r} {a = b} {q = t} _ _ _) e f x y =
+      let u = told x refl s in
+      let v = told y refl s in
+      let phase : p ≡ r = u .phase ∙ sym (v .phase) in
+      let target : a ≡ b = u .target ∙ sym (v .target) in
+      let judged : q ≡ t = u .judged ∙ sym (v .judged) in
+      cc
 
 -- of a state and a buffer that are right for some octets, a feed has one answer and one next state
 one-feed : (e : Edition) (octets part buffer : List ℕ) (st next more : Feeding) (o p : FeedOut) → Holds e octets buffer st

@@ -20,20 +20,25 @@ use Rattle.octets.specs.Editions.{further}
 use Rattle.octets.specs.declared.editions.Edition.{Edition}
 use Rattle.octets.specs.declared.editions.Edition.the-variants.{Rfc8288, Rfc5988}
 use Rattle.grammar.proofs.Editions.{apart}
-use Rattle.grammar.proofs.Readings.{read-reading, unread-malformed}
+use Rattle.grammar.proofs.Readings.{read-reading}
 use Rattle.grammar.specs.Kept.{nameOf, codeOf, isOnce}
 use Rattle.grammar.specs.Grammar.{from-token}
-use Rattle.tables.specs.Table.{Table, paramAt, codeAt}
+use Rattle.tables.specs.Table.{Table, linkAt, paramAt, codeAt}
 use Rattle.tables.specs.Good.{Each, each-none, each-more, Agrees, Good, GoodValue, no-value, token-value, quoted-value, wider-value}
-use Rattle.tables.proofs.InGood.{head-of, agrees-at}
+use Rattle.tables.proofs.InGood.{head-of, agrees-at, good-link}
 use Rattle.tables.specs.Meaning.{unescape, valueOf}
 use Rattle.tables.specs.Relation.{runs, relations, hasRelation}
 use Rattle.tables.specs.Written.{writtenValue}
+use Rattle.laws.specs.Row.{RowHolds}
 use Rattle.laws.specs.Marked.{marked}
 use Rattle.laws.specs.Slips.{slips}
 use Rattle.laws.specs.Older.{older, olderRefused}
-use Rattle.laws.specs.Laws.{MarkedHold, SlipsHold, OlderHold, third, fifth, mirror, LookupsHold, MirrorHolds, IsBad, miscoded, CodesAsked, PremiseNeeded}
+use Rattle.laws.specs.References.{references, bareRead, bareRefused, unfitTables}
+use Rattle.laws.specs.Laws.{MarkedHold, SlipsHold, OlderHold, ReferencesHold, third, fifth, mirror, LookupsHold, MirrorHolds}
+use Rattle.laws.specs.Laws.{IsBad, miscoded, CodesAsked, ReferredAt, TargetsAsked, PremiseNeeded}
 use Rattle.laws.proofs.Checked.{recorded-known, rows-hold}
+use Rattle.laws.proofs.References.{isReference, is-reference, no-reference}
+use Rattle.laws.proofs.Stopped.{unread-malformed}
 
 pub marked-hold : MarkedHold
 unfolding isBlank isDigit isLetter isToken isPlain isEscapable isTarget isHex isOlder fold sameFolded nameOf codeOf isOnce unescape valueOf runs relations hasRelation writtenValue
@@ -47,6 +52,14 @@ slips-hold Rfc5988 = rows-hold Rfc5988 slips refl
 pub older-hold : OlderHold
 unfolding isBlank isDigit isLetter isToken isPlain isEscapable isTarget isHex isOlder fold sameFolded nameOf codeOf isOnce unescape valueOf runs relations hasRelation writtenValue
 older-hold = record { in-older = rows-hold Rfc5988 older refl; in-newer = rows-hold Rfc8288 olderRefused refl }
+
+pub references-hold : ReferencesHold
+unfolding isBlank isDigit isLetter isToken isPlain isEscapable isTarget isHex isOlder fold sameFolded nameOf codeOf isOnce unescape valueOf runs relations hasRelation writtenValue
+references-hold = record { in-each = each; in-older = rows-hold Rfc5988 bareRead refl; in-newer = rows-hold Rfc8288 bareRefused refl }
+  where
+    each : (e : Edition) → Each (RowHolds e) references
+    each Rfc8288 = rows-hold Rfc8288 references refl
+    each Rfc5988 = rows-hold Rfc5988 references refl
 
 -- tables are usable whose records are those of a reading
 third-usable : (e : Edition) → Usable e third
@@ -137,19 +150,52 @@ pub codes-asked : (e : Edition) → CodesAsked e
 unfolding fold nameOf codeOf
 codes-asked e = record { any = miscoded-bad e; rows = rows-bad e miscoded refl }
 
+-- the test of a row: a short text, and a first link with a target that is no reference
+abbrev isUnfit : Table → Bool
+isUnfit t =
+    let l = linkAt (t .linkSlots) (t .paramSlots) 0 in
+    leb (length (t .text)) limit && ltb 0 (t .linkCount) && not (isReference (t .text) (l .targetFrom) (l .targetTo))
+
+abbrev allUnfit : List Table → Bool
+allUnfit [] = true
+allUnfit (t ∷ ts) = isUnfit t && allUnfit ts
+
+module _ (e : Edition) where
+  unfit-bad : (t : Table) (i : ℕ) → length (t .text) ≤ limit → i < t .linkCount → (ReferredAt t i → ⊥) → IsBad e t
+  unfit-bad t i short l n = is-bad e t short (λ g. n (good-link g l .reference))
+
+  tables-bad : (ts : List Table) → allUnfit ts ≡ true → Each (IsBad e) ts
+  tables-bad [] h = each-none
+  tables-bad (t ∷ ts) h =
+      let (x, rest) = both (isUnfit t) (allUnfit ts) h in
+      let (sl, other) = both (leb (length (t .text)) limit && ltb 0 (t .linkCount)) _ x in
+      let (short, some) = both (leb (length (t .text)) limit) (ltb 0 (t .linkCount)) sl in
+      let l = linkAt (t .linkSlots) (t .paramSlots) 0 in
+      each-more
+      (unfit-bad t 0 (leb-true (length (t .text)) limit short) (ltb-true 0 (t .linkCount) some)
+      (no-reference (t .text) (l .targetFrom) (l .targetTo) (not-true _ other)))
+      (tables-bad ts rest)
+
+pub targets-asked : (e : Edition) → TargetsAsked e
+targets-asked e = record { any = unfit-bad e; rows = tables-bad e unfitTables refl }
+
 pub premise-needed : (e : Edition) → PremiseNeeded e
 unfolding isBlank isDigit isLetter isToken isPlain isEscapable isTarget isHex isOlder
 premise-needed Rfc8288 =
     record {
-      first = unread-malformed (further Rfc8288) (apart Rfc8288) (octets "<a>;t=\"b") refl;
-      second = unread-malformed (further Rfc8288) (apart Rfc8288) (octets "c\"") refl;
+      first = unread-malformed Rfc8288 (octets "<a>;t=\"b") refl;
+      second = unread-malformed Rfc8288 (octets "c\"") refl;
       links = _;
-      joined = read-reading (further Rfc8288) (apart Rfc8288) (octets "<a>;t=\"b,c\"") _ refl;
+      joined =
+          read-reading (further Rfc8288) (apart Rfc8288) (octets "<a>;t=\"b,c\"") _ refl
+          (is-reference (octets "<a>;t=\"b,c\"") 1 2 refl, tt);
     }
 premise-needed Rfc5988 =
     record {
-      first = unread-malformed (further Rfc5988) (apart Rfc5988) (octets "<a>;t=\"b") refl;
-      second = unread-malformed (further Rfc5988) (apart Rfc5988) (octets "c\"") refl;
+      first = unread-malformed Rfc5988 (octets "<a>;t=\"b") refl;
+      second = unread-malformed Rfc5988 (octets "c\"") refl;
       links = _;
-      joined = read-reading (further Rfc5988) (apart Rfc5988) (octets "<a>;t=\"b,c\"") _ refl;
+      joined =
+          read-reading (further Rfc5988) (apart Rfc5988) (octets "<a>;t=\"b,c\"") _ refl
+          (is-reference (octets "<a>;t=\"b,c\"") 1 2 refl, tt);
     }

@@ -2,11 +2,12 @@
 use Prim.Native.Nat.{ℕ, _≤_, _<_}
 use mathlib.Core.Path.{_≡_}
 use mathlib.Core.List.{List, [], _∷_, _++_}
-use lib.ListN.{length}
+use lib.ListN.{length, take}
+use Rattle.octets.specs.Text.{octets}
 use Rattle.octets.specs.Editions.{numberOf, further, NoEdition}
 use Rattle.octets.specs.declared.editions.Edition.{Edition}
-use Rattle.grammar.specs.Place.{Begins, Malformed}
-use Rattle.outcomes.specs.Number.{limit, tooLong, malformedHeader}
+use Rattle.grammar.specs.Place.{Begins, Begun, Faulty, NoneFaulty, Malformed}
+use Rattle.outcomes.specs.Number.{limit, done, tooLong, malformedHeader}
 use Rattle.outcomes.specs.Read.{ReadOut, refused as refusedAt, Read}
 use Rattle.outcomes.specs.Feed.{FeedOut, unstored, Feed}
 use Rattle.outcomes.specs.Feeding.{Feeding, Holds, start, Feeds, Finishes}
@@ -49,7 +50,7 @@ FinishAgain =
 abbrev pub CutShortFinishes : Type 0
 CutShortFinishes =
     (e : Edition) (ps : List (List ℕ)) (buffer : List ℕ) (st : Feeding) → HandedOut (numberOf e) ps buffer st
-    → length (whole ps) ≤ limit → Begins (further e) (whole ps) → Malformed (further e) (whole ps)
+    → length (whole ps) ≤ limit → Begun (further e) (whole ps) → Malformed (further e) (whole ps)
     → (L P : List ℕ) (o : ReadOut) → Finishes st buffer L P o → o ≡ refusedAt L P malformedHeader (length (whole ps))
 
 -- a feed behind any list of parts answers the outcome on all octets so far
@@ -58,10 +59,11 @@ FeedAnswers =
     (n : ℕ) (ps : List (List ℕ)) (part buffer : List ℕ) (st next : Feeding) (o : FeedOut) → HandedOut n ps buffer st
     → Feeds st part buffer o next → Feed n (whole ps) part buffer o
 
--- 2 is answered exactly if no derivable header begins with the octets
+-- 2 is answered exactly if something is wrong with the octets: no derivable header begins with them, or a target that is closed among
+-- them is no reference
 pub record Tells (e : Edition) (octets : List ℕ) (o : FeedOut) : Type 0 where
-  pub none-begins : o .number ≡ malformedHeader → Begins (further e) octets → ⊥
-  pub told : (Begins (further e) octets → ⊥) → o .number ≡ malformedHeader
+  pub none-begins : o .number ≡ malformedHeader → Begun (further e) octets → ⊥
+  pub told : (Begun (further e) octets → ⊥) → o .number ≡ malformedHeader
 
 -- so does a feed within the limit, of all octets so far
 abbrev pub FeedTells : Type 0
@@ -69,6 +71,31 @@ FeedTells =
     (e : Edition) (ps : List (List ℕ)) (part buffer : List ℕ) (st next : Feeding) (o : FeedOut)
     → HandedOut (numberOf e) ps buffer st → Feeds st part buffer o next → length (whole ps ++ part) ≤ limit
     → Tells e (whole ps ++ part) o
+
+-- the target from a to k is no reference, and every target that is closed before it is one
+pub record FirstFaulty (e : Edition) (s : List ℕ) (a k : ℕ) : Type 0 where
+  pub faulty : Faulty (further e) s a k
+  pub first : (b j : ℕ) → j < k → Faulty (further e) s b j → ⊥
+
+-- A target is judged when its `>` is fed. `still-open`: octets with which a header begins by the edition's rules alone are answered 0 if
+-- their closed targets are references, whatever a target holds that is still open. `before`: so are a header's octets up to any place
+-- that isn't behind the `>` of its first faulty target. `closed`: from the feed on that brings this `>`, 2 is answered with the place
+-- where the target starts, in whichever part that lies and whatever follows. Of the last two `<1:a>` in three parts is a case.
+pub record TargetsTold (e : Edition) : Type 0 where
+  pub still-open : (ps : List (List ℕ)) (part buffer : List ℕ) (st next : Feeding) (o : FeedOut) → HandedOut (numberOf e) ps buffer st
+      → Feeds st part buffer o next → length (whole ps ++ part) ≤ limit → Begins (further e) (whole ps ++ part)
+      → NoneFaulty (further e) (whole ps ++ part) → o .number ≡ done
+  pub before : (ps : List (List ℕ)) (part buffer : List ℕ) (st next : Feeding) (o : FeedOut) → HandedOut (numberOf e) ps buffer st
+      → Feeds st part buffer o next → length (whole ps ++ part) ≤ limit → (header : List ℕ) (a k n : ℕ) → FirstFaulty e header a k
+      → n ≤ k → whole ps ++ part ≡ take n header → o .number ≡ done
+  pub closed : (ps : List (List ℕ)) (part buffer : List ℕ) (st next : Feeding) (o : FeedOut) → HandedOut (numberOf e) ps buffer st
+      → Feeds st part buffer o next → length (whole ps ++ part) ≤ limit → (a k : ℕ) → FirstFaulty e (whole ps ++ part) a k
+      → o ≡ unstored buffer malformedHeader a
+  pub two-parts : (buffer : List ℕ) (st next : Feeding) (o : FeedOut) → HandedOut (numberOf e) (octets "<1" ∷ []) buffer st
+      → Feeds st (octets ":a") buffer o next → o .number ≡ done
+  pub three-parts : (buffer : List ℕ) (st next : Feeding) (o : FeedOut)
+      → HandedOut (numberOf e) (octets "<1" ∷ octets ":a" ∷ []) buffer st → Feeds st (octets ">") buffer o next
+      → o ≡ unstored buffer malformedHeader 1
 
 -- once a feed answers 2, later feeds within the limit answer 2 with the same place
 abbrev pub PlaceStays : Type 0

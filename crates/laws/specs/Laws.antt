@@ -8,11 +8,12 @@ use Rattle.octets.specs.Editions.{numberOf, further}
 use Rattle.octets.specs.declared.editions.Edition.{Edition}
 use Rattle.octets.specs.declared.editions.Edition.the-variants.{Rfc8288, Rfc5988}
 use Rattle.grammar.specs.Link.{Link}
+use Rattle.grammar.specs.Targets.{ReferenceAt}
 use Rattle.grammar.specs.Kept.{Reading}
 use Rattle.grammar.specs.Place.{Malformed}
 use Rattle.grammar.specs.Join.{Padded, join}
 use Rattle.tables.specs.Good.{Each, Agrees}
-use Rattle.tables.specs.Table.{Table}
+use Rattle.tables.specs.Table.{Table, linkAt}
 use Rattle.outcomes.specs.Number.{limit, done, badTable, noSuchLink, notFound}
 use Rattle.outcomes.specs.Context.{of-text, of-base, nothing, Context}
 use Rattle.outcomes.specs.Search.{Search}
@@ -22,6 +23,7 @@ use Rattle.laws.specs.Row.{recordedTable, RowHolds}
 use Rattle.laws.specs.Marked.{marked}
 use Rattle.laws.specs.Slips.{slips}
 use Rattle.laws.specs.Older.{older, olderRefused}
+use Rattle.laws.specs.References.{references, bareRead, bareRefused, unfitTables}
 
 abbrev pub third : Table
 third =
@@ -49,6 +51,12 @@ SlipsHold = (e : Edition) → Each (RowHolds e) slips
 pub record OlderHold : Type 0 where
   pub in-older : Each (RowHolds Rfc5988) older
   pub in-newer : Each (RowHolds Rfc8288) olderRefused
+
+-- and so are headers whose targets are references or none, in each edition, and where a bare value could be taken for a target
+pub record ReferencesHold : Type 0 where
+  pub in-each : (e : Edition) → Each (RowHolds e) references
+  pub in-older : Each (RowHolds Rfc5988) bareRead
+  pub in-newer : Each (RowHolds Rfc8288) bareRefused
 
 -- Of the third marked header: the context of its link is the `anchor` value as written, and its values are copied with their octets
 -- alone. Of the fifth: a link without `anchor` has the whole base. So in each edition.
@@ -90,6 +98,16 @@ miscoded =
 pub record CodesAsked (e : Edition) : Type 0 where
   pub any : (t : Table) (j : ℕ) → length (t .text) ≤ limit → j < t .paramCount → (Agrees (t .text) (t .paramSlots) j → ⊥) → IsBad e t
   pub rows : Each (IsBad e) miscoded
+
+-- the target of link number i is a reference
+abbrev pub ReferredAt : Table → ℕ → Type 0
+ReferredAt t i =
+    ReferenceAt (t .text) (linkAt (t .linkSlots) (t .paramSlots) i .targetFrom) (linkAt (t .linkSlots) (t .paramSlots) i .targetTo)
+
+-- A table is bad if some link's target is no reference, whatever the rest of it is: so are these.
+pub record TargetsAsked (e : Edition) : Type 0 where
+  pub any : (t : Table) (i : ℕ) → length (t .text) ≤ limit → i < t .linkCount → (ReferredAt t i → ⊥) → IsBad e t
+  pub rows : Each (IsBad e) unfitTables
 
 -- a header with nothing before and after it
 abbrev pub bare : List ℕ → Padded

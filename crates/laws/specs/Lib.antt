@@ -3,6 +3,7 @@ pub mod Row
 pub mod Marked
 pub mod Slips
 pub mod Older
+pub mod References
 pub mod Answers
 pub mod Feedings
 pub mod Laws

@@ -1,9 +1,10 @@
 // Laws over all the definitions, held by the gate: each function promises one statement of specs/ and does nothing.
 ghost use Rattle.octets.specs.declared.editions.Edition.{Edition};
-ghost use Rattle.laws.specs.Laws.{MarkedHold, SlipsHold, OlderHold, LookupsHold, MirrorHolds, CodesAsked, PremiseNeeded};
+ghost use Rattle.laws.specs.Laws.{MarkedHold, SlipsHold, OlderHold, ReferencesHold, LookupsHold, MirrorHolds};
+ghost use Rattle.laws.specs.Laws.{CodesAsked, TargetsAsked, PremiseNeeded};
 ghost use Rattle.laws.specs.Answers.{JoinAnswers, JoinRefuses, BackAnswers, WrittenApart, ReadsAlike, TablesAlike};
 ghost use Rattle.laws.specs.Feedings.{FinishReads, CutsDontMatter, FinishAgain, CutShortFinishes, FeedAnswers, FeedTells};
-ghost use Rattle.laws.specs.Feedings.{PlaceStays, TooLongForGood, OneAnswer, UnknownForGood};
+ghost use Rattle.laws.specs.Feedings.{TargetsTold, PlaceStays, TooLongForGood, OneAnswer, UnknownForGood};
 
 // The twelve marked headers are as they were read by hand.
 pub fn marked_hold()
@@ -20,6 +21,11 @@ pub fn older_hold()
     ensures { λ _. ⌜ OlderHold ⌝ }
 {}
 
+// So are headers whose targets are references or none.
+pub fn references_hold()
+    ensures { λ _. ⌜ ReferencesHold ⌝ }
+{}
+
 // Contexts and copied values of two marked headers.
 pub fn lookups_hold()
     ensures { λ _. ⌜ ((e : Edition) → LookupsHold e) ⌝ }
@@ -33,6 +39,11 @@ pub fn mirror_holds()
 // A table with a code that isn't its name's is bad, to every entry.
 pub fn codes_asked()
     ensures { λ _. ⌜ ((e : Edition) → CodesAsked e) ⌝ }
+{}
+
+// A table with a target that is no reference is bad, to every entry.
+pub fn targets_asked()
+    ensures { λ _. ⌜ ((e : Edition) → TargetsAsked e) ⌝ }
 {}
 
 // Two malformed headers may join to one that is not.
@@ -96,9 +107,14 @@ pub fn feed_answers()
     ensures { λ _. ⌜ FeedAnswers ⌝ }
 {}
 
-// Within the limit a feed answers 2 exactly if no derivable header begins with the octets so far.
+// Within the limit a feed answers 2 exactly if something is wrong with the octets so far.
 pub fn feed_tells()
     ensures { λ _. ⌜ FeedTells ⌝ }
+{}
+
+// Feeds tell of a target that is no reference once its `>` is fed, and nothing of it before.
+pub fn targets_told()
+    ensures { λ _. ⌜ ((e : Edition) → TargetsTold e) ⌝ }
 {}
 
 // Behind a feed that answers 2, feeds within the limit answer 2 with the same place.

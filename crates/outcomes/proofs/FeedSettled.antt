@@ -1,17 +1,14 @@
 -- A feed and the finish have one outcome each, and a start is right for no octets.
 use Prim.Native.Nat.{ℕ}
 use native.Mathlib.Omega.{arith}
-use mathlib.Core.Path.{_≡_, refl, sym, ap, _∙_}
-use mathlib.Core.Bool.{Bool, true, false, true≢false}
-use mathlib.Core.Logic.{_⊎_, inl, inr}
-use mathlib.Core.List.{List, [], _++_}
+use mathlib.Core.Path.{_≡_, refl, ap}
+use mathlib.Core.List.{List, _++_}
 use lib.ListN.{length}
 use Rattle.octets.specs.Editions.{further}
 use Rattle.octets.specs.declared.editions.Edition.{Edition}
-use Rattle.grammar.specs.Place.{Begins}
-use Rattle.grammar.specs.Machine.{gap, run}
+use Rattle.grammar.specs.Place.{Begun}
 use Rattle.grammar.proofs.Editions.{apart}
-use Rattle.grammar.proofs.Prefix.{isDead, alive-begins, begins-alive, one-place}
+use Rattle.grammar.proofs.Places.{one-place, begun-decided, begun-nothing}
 use Rattle.outcomes.specs.Number.{limit, tooLong, malformedHeader, noOutputRoom}
 use Rattle.outcomes.specs.Read.{ReadOut, refused, ReadIn}
 use Rattle.outcomes.specs.Feed.{
@@ -33,14 +30,6 @@ use Rattle.outcomes.proofs.Cases.{Branch, this, that, Order, only, bran
 use Rattle.outcomes.proofs.InEdition.{edition-settled}
 use Rattle.outcomes.proofs.ReadSettled.{read-in}
 
--- whether some derivable header begins with u is decided
-pub begins-decided : (e : Edition) (u : List ℕ) → Begins (further e) u ⊎ (Begins (further e) u → ⊥)
-begins-decided e u = go (isDead (run (further e) (gap []) 0 u)) refl
-  where
-    go : (x : Bool) → isDead (run (further e) (gap []) 0 u) ≡ x → Begins (further e) u ⊎ (Begins (further e) u → ⊥)
-    go false q = inl (alive-begins (further e) (apart e) u q)
-    go true q = inr (λ b. true≢false (sym q ∙ begins-alive (further e) (apart e) u b))
-
 module _ (e : Edition) (fed part buffer : List ℕ) where
   -- the place of the octets so far
   abbrev place : ℕ
@@ -50,8 +39,8 @@ module _ (e : Edition) (fed part buffer : List ℕ) where
   Cases =
       Order limit (length buffer)
       (Order (length (fed ++ part)) limit
-      (Branch (Begins (further e) (fed ++ part)) (λ b q. q ≡ gathering (fed ++ part) buffer)
-      (Begins (further e) (fed ++ part) → ⊥) (λ q. q ≡ unstored buffer malformedHeader place))
+      (Branch (Begun (further e) (fed ++ part)) (λ b q. q ≡ gathering (fed ++ part) buffer)
+      (Begun (further e) (fed ++ part) → ⊥) (λ q. q ≡ unstored buffer malformedHeader place))
       (λ q. q ≡ unstored buffer tooLong 0))
       (λ q. q ≡ unstored buffer noOutputRoom 0)
 
@@ -68,7 +57,7 @@ module _ (e : Edition) (fed part buffer : List ℕ) where
       settled cases
       (order
       (λ h. order
-      (λ s. branch (begins-decided e (fed ++ part)) (λ b n. n b) (λ b c q z. z)
+      (λ s. branch (begun-decided (further e) (apart e) (fed ++ part)) (λ b n. n b) (λ b c q z. z)
       (λ b. only (begins h s b))
       (λ n. only (begins-none h s n (one-place (further e) (apart e) (fed ++ part) .1))))
       (λ l. only (too-long h l)))
@@ -94,4 +83,4 @@ pub finish-settled : FinishSettled
 finish-settled n fed buffer L P = edition-settled (λ e. finish-in e fed buffer L P)
 
 pub start-holds : StartHolds
-start-holds e buffer = begun (omega arith) (alive-begins (further e) (apart e) [] refl) refl
+start-holds e buffer = begun (omega arith) (begun-nothing (further e) (apart e)) refl

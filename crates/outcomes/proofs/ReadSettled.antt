@@ -11,7 +11,7 @@ use Rattle.grammar.specs.Records.{linkRoom, paramRoom, countParams}
 use Rattle.grammar.specs.Place.{Malformed}
 use Rattle.grammar.proofs.Editions.{apart}
 use Rattle.grammar.proofs.Readings.{one-reading, decided}
-use Rattle.grammar.proofs.Prefix.{one-place}
+use Rattle.grammar.proofs.Places.{one-place}
 use Rattle.outcomes.specs.Number.{limit, tooLong, malformedHeader, noLinkRoom, noParamRoom}
 use Rattle.outcomes.specs.Read.{ReadOut, refused, filled, ReadIn, too-long, not-derived, no-link-room, no-param-room, reads}
 use Rattle.outcomes.specs.Laws.{Settled, ReadSettled}
@@ -49,7 +49,7 @@ module _ (e : Edition) (h L P : List ℕ) where
   read-in =
       settled cases
       (order
-      (λ s. branch (decided (further e) (apart e) h) (λ r m. m (r .1 .links) (r .1 .derived))
+      (λ s. branch (decided (further e) (apart e) h) (λ r m. m (r .1 .links) (r .1 .derived) (r .1 .references))
       (λ r k q f. subst (λ K. Fits K q) (one-reading (further e) (apart e) h _ _ (k .1) (r .1)) f)
       (λ r. order
       (λ f. order (λ g. only (reads s (r .1) f g)) (λ l. only (no-param-room s (r .1) f l)))

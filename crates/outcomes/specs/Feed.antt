@@ -8,7 +8,7 @@ use lib.Dec.{ltb}
 use lib.ListN.{length, drop}
 use Rattle.octets.specs.Editions.{further}
 use Rattle.octets.specs.declared.editions.Edition.{Edition}
-use Rattle.grammar.specs.Place.{Begins, Place}
+use Rattle.grammar.specs.Place.{Begun, Place}
 use Rattle.outcomes.specs.Number.{limit, done, tooLong, malformedHeader, noOutputRoom}
 use Rattle.outcomes.specs.Read.{ReadOut, refused, ReadIn}
 use Rattle.outcomes.specs.InEdition.{InEdition}
@@ -37,10 +37,10 @@ module _ (e : Edition) (fed part buffer : List ℕ) where
   pub data FeedIn : FeedOut → Type 0 where
     small-buffer : length buffer < limit → FeedIn (unstored buffer noOutputRoom 0)
     too-long : limit ≤ length buffer → limit < length (fed ++ part) → FeedIn (unstored buffer tooLong 0)
-    -- no derivable header begins with the octets so far
-    begins-none : {k : ℕ} → limit ≤ length buffer → length (fed ++ part) ≤ limit → (Begins (further e) (fed ++ part) → ⊥)
+    -- something is wrong with the octets so far: they begin no header, or a target that is closed among them is no reference
+    begins-none : {k : ℕ} → limit ≤ length buffer → length (fed ++ part) ≤ limit → (Begun (further e) (fed ++ part) → ⊥)
         → Place (further e) (fed ++ part) k → FeedIn (unstored buffer malformedHeader k)
-    begins : limit ≤ length buffer → length (fed ++ part) ≤ limit → Begins (further e) (fed ++ part)
+    begins : limit ≤ length buffer → length (fed ++ part) ≤ limit → Begun (further e) (fed ++ part)
         → FeedIn (gathering (fed ++ part) buffer)
 
 -- the end of the octets `fed`, with their gathering buffer and tables that hold L and P, in the edition e

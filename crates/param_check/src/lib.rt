@@ -11,8 +11,7 @@ use kinds::ParamNumber;
 use kinds::Span;
 use names::Seen;
 use octets::editions::Edition;
-use part_check::PartKind;
-use part_check::is_part;
+use part_check::is_inside;
 use part_check::is_span;
 use part_check::is_token_part;
 use part_check::is_wider_part;
@@ -42,7 +41,7 @@ fn is_good_value(edition: Edition, s: &[u8], p: ParamParts) -> bool
     match form {
         0 => (value.from.0 == p.name.to.0) & (value.to.0 == p.name.to.0),
         1 => is_token_part(s, value),
-        2 => is_part(s, value, PartKind::Inside),
+        2 => is_inside(s, value),
         _ => is_wider_value(edition, s, p),
     }
 }

@@ -1,14 +1,12 @@
 -- A loop that passes a part unit by unit: it stands at i, and what is left of the part tells what the whole part is.
-use Prim.Native.Nat.{ℕ, _≤_, _<_}
+use Prim.Native.Nat.{ℕ, _≤_}
 use native.Mathlib.Omega.{arith}
 use mathlib.Core.Path.{_≡_}
 use mathlib.Core.Bool.{true, false}
 use mathlib.Core.List.{List}
-use Rattle.grammar.specs.Grammar.{inside-end, target-end}
+use Rattle.grammar.specs.Grammar.{Inside, inside-end}
 use Rattle.part_check.specs.Decides.{Decides}
-use Rattle.part_check.specs.Units.{IsPart, PastUnit}
-use Rattle.part_check.specs.declared.PartKind.{PartKind}
-use Rattle.part_check.specs.declared.PartKind.the-variants.{Inside, Target}
+use Rattle.part_check.specs.Units.{PastUnit}
 use Rattle.part_check.proofs.Deciding.{is-so, not-so}
 
 pub record Onward (X : ℕ → ℕ → Type 0) (a i e : ℕ) : Type 0 where
@@ -26,10 +24,5 @@ module _ {X : ℕ → ℕ → Type 0} {a i e : ℕ} (o : Onward X a i e) where
   pub stopped : {r : ℕ} → PastUnit X i e r → r ≡ i → Decides false (X a e)
   stopped u q = not-so (λ x. u .stuck q (o .on x))
 
--- a part of no octets is one of either kind
-nothing : (k : PartKind) (s : List ℕ) (i : ℕ) → IsPart k s i i
-nothing Inside s i = inside-end
-nothing Target s i = target-end
-
-pub whole : (k : PartKind) (s : List ℕ) {a i e : ℕ} → Onward (IsPart k s) a i e → e ≤ i → Decides true (IsPart k s a e)
-whole k s {a} {i} {e} o h = let q : i ≡ e = omega (arith, o .within) in is-so (o .back (rw q (nothing k s e)))
+pub whole : (s : List ℕ) {a i e : ℕ} → Onward (Inside s) a i e → e ≤ i → Decides true (Inside s a e)
+whole s {a} {i} {e} o h = let q : i ≡ e = omega (arith, o .within) in is-so (o .back (rw q inside-end))

@@ -1,18 +1,16 @@
--- One unit of each kind of part, and where none stands: read off a derivation, and put in front of one.
+-- A plain octet or a pair inside a quoted string, and where none stands: read off a derivation, and put in front of one.
 use Prim.Native.Nat.{ℕ, suc, _+_, _-_, _≤_, _<_}
 use native.Mathlib.Omega.{arith}
-use native.Mathlib.Numerals.{add-one, add-two}
-use mathlib.Core.Path.{_≡_, refl, sym, _∙_}
+use native.Mathlib.Numerals.{add-one}
+use mathlib.Core.Path.{_≡_, sym, _∙_}
 use mathlib.Core.Bool.{true, false, false≢true}
 use mathlib.Core.List.{List}
-use lib.Dec.{eqb}
 use lib.ListN.{length, getD}
 use borrow.Author.Tests.{eqb-false}
-use Rattle.octets.specs.Sets.{isPlain, isEscapable, isTarget, isHex}
-use Rattle.octets.proofs.Laws.{not-eqb}
-use Rattle.grammar.specs.Grammar.{Inside, inside-end, plain, pair, Target, target-end, octet, triple}
+use Rattle.octets.specs.Sets.{isPlain, isEscapable}
+use Rattle.grammar.specs.Grammar.{Inside, inside-end, plain, pair}
 use Rattle.grammar.proofs.Classes.{plain-not-backslash}
-use Rattle.tables.proofs.Texts.{inside-le, target-le}
+use Rattle.tables.proofs.Texts.{inside-le}
 use Rattle.part_check.specs.Units.{PastUnit}
 
 module _ {X : ℕ → ℕ → Type 0} {i e r : ℕ} where
@@ -24,8 +22,6 @@ pub no-unit : {X : ℕ → ℕ → Type 0} {i e : ℕ} → i < e → (X i e → 
 no-unit h n = record { forward = omega arith; inside = omega arith; back = λ x. x; on = λ x. x; stuck = λ q x. n x }
 
 module _ (s : List ℕ) where
-  -- ---- the inside of a quoted string
-
   -- what begins a rest that does not begin with a plain octet
   pub record Paired (i e : ℕ) : Type 0 where
     pub backslash : getD s i 0 ≡ 92
@@ -43,39 +39,7 @@ module _ (s : List ℕ) where
   paired h n (plain b r) = absurd (false≢true (sym n ∙ b .is))
   paired {i} h n (pair b c r) = record { backslash = b .is; room = inside-le s r; next = rw (add-one i) (c .is); rest = r }
 
-  -- ---- a target
-
-  -- what begins a rest that does not begin with a target octet
-  pub record Tripled (i e : ℕ) : Type 0 where
-    pub percent : getD s i 0 ≡ 37
-    pub room : suc (suc (suc i)) ≤ e
-    pub high : isHex (getD s (i + 1) 0) ≡ true
-    pub low : isHex (getD s (i + 2) 0) ≡ true
-    rest : Target s (suc (suc (suc i))) e
-
-  -- `%` is no target octet
-  target-not-percent : (c : ℕ) → isTarget c ≡ true → eqb c 37 ≡ false
-  unfolding isTarget
-  target-not-percent c = not-eqb isTarget 37 c refl
-
-  past-octet : {i e : ℕ} → i < e → isTarget (getD s i 0) ≡ true → Target s i e → Target s (suc i) e
-  past-octet h p target-end = absurd (omega arith)
-  past-octet h p (octet b r) = r
-  past-octet h p (triple b c d r) = absurd (eqb-false _ 37 (target-not-percent _ p) (b .is))
-
-  pub tripled : {i e : ℕ} → i < e → isTarget (getD s i 0) ≡ false → Target s i e → Tripled i e
-  tripled h n target-end = absurd (omega arith)
-  tripled h n (octet b r) = absurd (false≢true (sym n ∙ b .is))
-  tripled {i} h n (triple b c d r) =
-      record {
-        percent = b .is;
-        room = target-le s r;
-        high = rw (add-one i) (c .is);
-        low = rw (add-two i) (d .is);
-        rest = r;
-      }
-
-  -- ---- the unit at place i of a part that ends at e, up to place r
+  -- the unit at place i of a part that ends at e, up to place r
 
   module _ {i e r : ℕ} (h : i < e) (k : e ≤ length s) where
     pub one-plain : r ≡ suc i → isPlain (getD s i 0) ≡ true → PastUnit (Inside s) i e r
@@ -88,15 +52,3 @@ module _ (s : List ℕ) where
         (unit (omega arith) (omega arith)
         (λ x. pair (record { inside = omega arith; is = b }) (record { inside = omega arith; is = rw (← add-one i) c }) x)
         (λ x. paired h n x .rest))
-
-    pub one-octet : r ≡ suc i → isTarget (getD s i 0) ≡ true → PastUnit (Target s) i e r
-    one-octet q p = rw q (unit (omega arith) h (λ x. octet (record { inside = omega arith; is = p }) x) (past-octet h p))
-
-    pub one-triple : r ≡ suc (suc (suc i)) → isTarget (getD s i 0) ≡ false → getD s i 0 ≡ 37 → 3 ≤ e - i
-        → isHex (getD s (i + 1) 0) ≡ true → isHex (getD s (i + 2) 0) ≡ true → PastUnit (Target s) i e r
-    one-triple q n b l c d =
-        rw q
-        (unit (omega arith) (omega arith)
-        (λ x. triple (record { inside = omega arith; is = b }) (record { inside = omega arith; is = rw (← add-one i) c })
-        (record { inside = omega arith; is = rw (← add-two i) d }) x)
-        (λ x. tripled h n x .rest))

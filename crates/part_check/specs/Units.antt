@@ -1,15 +1,6 @@
--- Parts that are made of units, and what passing one unit leaves to be told.
+-- A part that is made of units, and what passing one unit leaves to be told.
 use Prim.Native.Nat.{ℕ, _≤_}
 use mathlib.Core.Path.{_≡_}
-use mathlib.Core.List.{List}
-use Rattle.grammar.specs.Grammar as grammar
-use Rattle.part_check.specs.declared.PartKind.{PartKind}
-use Rattle.part_check.specs.declared.PartKind.the-variants.{Inside, Target}
-
--- the octets of s from place i up to place e are a part of that kind
-abbrev pub IsPart : PartKind → List ℕ → ℕ → ℕ → Type 0
-IsPart Inside = grammar.Inside
-IsPart Target = grammar.Target
 
 -- From place i a unit of an X that ends at e was passed up to place r, or none stands there and r is i: what is left from r on tells
 -- what stands from i on.

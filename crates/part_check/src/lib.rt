@@ -2,18 +2,16 @@
 ghost use Prim.Native.Nat.{_≤_, _<_};
 ghost use lib.ListN.{length};
 ghost use Rattle.octets.specs.Editions.{further};
-ghost use Rattle.grammar.specs.Grammar.{Token, Wider};
+ghost use Rattle.grammar.specs.Grammar.{Token, Wider, Inside};
 ghost use Rattle.tables.specs.Good.{InText};
 ghost use Rattle.part_check.specs.Decides.{Decides};
-ghost use Rattle.part_check.specs.Units.{IsPart, PastUnit};
+ghost use Rattle.part_check.specs.Units.{PastUnit};
 use cursor::Cursor;
 use kinds::Place;
 use kinds::Span;
 use octets::editions::Edition;
 use octets::sets::is_escapable;
-use octets::sets::is_hex;
 use octets::sets::is_plain;
-use octets::sets::is_target;
 
 // Whether the part lies in the text.
 pub fn is_span(s: &[u8], part: Span) -> bool
@@ -45,51 +43,31 @@ pub fn is_wider_part(edition: Edition, s: &[u8], part: Span) -> bool
     (k.at.0 < e) & (c.at.0 == e)
 }
 
-// The parts that are made of units: the inside of a quoted string of plain octets and backslash pairs, a target of target octets and
-// percent triples.
-pub enum PartKind {
-    Inside,
-    Target,
-}
-
-// The place behind the unit that stands at `at`, or that place itself where none does.
-fn past_unit(s: &[u8], at: Place, to: Place, kind: PartKind) -> Place
+// Inside a quoted string, the place behind the plain octet or backslash pair that stands at `at`, or that place itself where none does.
+fn past_unit(s: &[u8], at: Place, to: Place) -> Place
     requires { ⌜ (at .0 < to .0) × (to .0 ≤ length (now s)) ⌝ }
-    ensures { λ r. ⌜ PastUnit (IsPart kind (now (s .entry))) (at .0) (to .0) (r .0) ⌝ }
+    ensures { λ r. ⌜ PastUnit (Inside (now (s .entry))) (at .0) (to .0) (r .0) ⌝ }
 {
     let i = at.0;
     let left = to.0 - i;
-    match kind {
-        PartKind::Inside => {
-            if is_plain(s[i]) {
-                at.next()
-            } else if s[i] == b'\\' && left >= 2 && is_escapable(s[i + 1]) {
-                at.next().next()
-            } else {
-                at
-            }
-        }
-        PartKind::Target => {
-            if is_target(s[i]) {
-                at.next()
-            } else if s[i] == b'%' && left >= 3 && is_hex(s[i + 1]) && is_hex(s[i + 2]) {
-                at.next().next().next()
-            } else {
-                at
-            }
-        }
+    if is_plain(s[i]) {
+        at.next()
+    } else if s[i] == b'\\' && left >= 2 && is_escapable(s[i + 1]) {
+        at.next().next()
+    } else {
+        at
     }
 }
 
-// Whether the part is one of this kind.
-pub fn is_part(s: &[u8], part: Span, kind: PartKind) -> bool
+// Whether the part is the inside of a quoted string.
+pub fn is_inside(s: &[u8], part: Span) -> bool
     requires { ⌜ InText (now s) (part .from .0) (part .to .0) ⌝ }
-    ensures { λ r. ⌜ Decides r (IsPart kind (now (s .entry)) (part .from .0) (part .to .0)) ⌝ }
+    ensures { λ r. ⌜ Decides r (Inside (now (s .entry)) (part .from .0) (part .to .0)) ⌝ }
 {
     let mut at = part.from;
     let to = part.to;
     while at.0 < to.0 {
-        let next = past_unit(s, at, to, kind);
+        let next = past_unit(s, at, to);
         if next.0 == at.0 {
             return false;
         }

@@ -1,3 +1,5 @@
 -- Laws of scanning a part.
 pub mod Leading
-pub mod MachineLed
+pub mod Normals
+pub mod Moves
+pub mod Starts

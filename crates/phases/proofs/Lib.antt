@@ -1,2 +1,3 @@
 -- Laws of the phases.
 pub mod Steps
+pub mod SpotCases

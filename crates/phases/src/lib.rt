@@ -12,6 +12,8 @@ use octets::sets::Set;
 use octets::sets::is_hex;
 use octets::sets::is_in;
 
+pub mod spot;
+
 // Between links.
 pub const GAP: usize = 0;
 

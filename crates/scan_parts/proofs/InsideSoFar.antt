@@ -75,15 +75,15 @@ module _ {s : List ℕ} where
     pub no-pair : not r ≡ true → InsideScanned s a (Stuck (record { 0 = j }))
     no-pair w =
         no-quote
-        (λ extra o n e v p.
+        (λ extra o n e v p z.
         halts
         (subst (Stands extra s (escape o n e v)) (sym (k ∙ add-one i))
         (stands-on (escape o n e v) (inside-stands o n e v (g .derived) p) (q .inside) (rw (q .is)))) refl refl
-        (λ h. rw (u .not (not-true r w) h)))
+        (λ h. rw (u .not (not-true r w) h)) z)
 
   pub no-octet : {a i : ℕ} {x y : Bool} → InsideSoFar s a i → Looked s i 34 x → x ≡ false → Looked s i 92 y → not y ≡ true
       → InsideScanned s a (Stuck (record { 0 = i }))
   no-octet {y = y} g l x k f =
       no-quote
-      (λ extra o n e v p.
-      halts (inside-stands o n e v (g .derived) p) refl refl (λ h. rw (l .not x h, k .not (not-true y f) h, g .stops h)))
+      (λ extra o n e v p z.
+      halts (inside-stands o n e v (g .derived) p) refl refl (λ h. rw (l .not x h, k .not (not-true y f) h, g .stops h)) z)

@@ -2,6 +2,7 @@
 pub mod Standing
 pub mod OneOctet
 pub mod TargetSoFar
+pub mod ReferenceOrNot
 pub mod InsideSoFar
 pub mod ReadyBehindValue
 pub mod ReadyBehindParam

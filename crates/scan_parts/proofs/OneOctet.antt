@@ -41,7 +41,7 @@ module _ {s : List ℕ} {a : ℕ} {r : Scan} (u : OneScanned isHex s a r) where
     where
       go : {p : Place} → OneScanned isHex s a (Stuck p) → TripleScanned s a (Stuck p)
       go (none-there z w) =
-          no-digit (λ extra ls b p. subst (MalformedAt extra s) (sym z) (halts p refl refl (λ h. rw (w h))))
+          no-digit (λ extra ls b p r. subst (MalformedAt extra s) (sym z) (halts p refl refl (λ h. rw (w h)) r))
 
   pub second-scanned : {d : Cursor} {v : Scan} → r ≡ Past d → OneScanned isHex s (d .at .0) v → TripleScanned s a v
   second-scanned {d} {v} e w = go (subst (λ (i : ℕ). OneScanned isHex s i v) (first .0) w)
@@ -52,7 +52,7 @@ module _ {s : List ℕ} {a : ℕ} {r : Scan} (u : OneScanned isHex s a r) where
       go : {v : Scan} → OneScanned isHex s (suc a) v → TripleScanned s a v
       go (none-there z x) =
           no-digit
-          (λ extra ls b p.
+          (λ extra ls b p r.
           subst (MalformedAt extra s) (sym z)
-          (halts (stands-on (hex ls b) p (first .1 .inside) (rw (first .1 .is))) refl refl (λ h. rw (x h))))
+          (halts (stands-on (hex ls b) p (first .1 .inside) (rw (first .1 .is))) refl refl (λ h. rw (x h)) r))
       go (one-there z y) = digits z (first .1) y

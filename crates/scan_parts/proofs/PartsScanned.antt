@@ -43,7 +43,7 @@ module _ {extra : Extra} {s : List ℕ} where
     quote-stuck e = go (subst (InsideScanned s j) e i)
       where
         go : {p : Place} → InsideScanned s j (Stuck p) → ValueScanned extra s name v (NoParam p)
-        go (no-quote f) = no-value (λ o n e p. f extra o n e (suc v) (quote-starts q k o n e p))
+        go (no-quote f) = no-value (λ o n e p r. f extra o n e (suc v) (quote-starts q k o n e p) r)
 
     pub quote-passed : {a : Span} {c d : Cursor} → r ≡ Past c → FromTo a j (c .at .0) → d .at .0 ≡ c .at .0 + 1
         → ValueScanned extra s name v (Param (record { name = name; value = a; form = 2 }) d)
@@ -62,5 +62,5 @@ module _ {extra : Extra} {s : List ℕ} where
       named r y = subst (λ (z : Span). FromTo z a e) (sym y) x
 
       go : {u : ParamScan} → ValueScanned extra s name v u → ParamScanned extra s a u
-      go (no-value f) = no-param (λ o p. f o a e (equals-reached o (first-of t n) t b q m w p))
+      go (no-value f) = no-param (λ o p r. f o a e (equals-reached o (first-of t n) t b q m w p) r)
       go (a-value {r = r} y h) = a-param (valued-parsed {r = r} t n b (named r y) q m w h (refl, refl) refl)

@@ -12,8 +12,9 @@ use lib.ListN.{length, getD}
 use Rattle.octets.specs.Sets.{isBlank, isToken}
 use Rattle.grammar.specs.Link.{Param}
 use Rattle.grammar.specs.Grammar.{Extra, At, Run, run-end, run-more}
+use Rattle.grammar.specs.Targets.{References}
 use Rattle.grammar.specs.Place.{MalformedAt}
-use Rattle.grammar.specs.Machine.{State, semi, name, named, equals, step, Open, nameEnd, add, settle, close, flag}
+use Rattle.grammar.specs.Machine.{State, semi, name, named, equals, dead, step, Open, nameEnd, add, settle, close, flag}
 use Rattle.grammar.proofs.Classes.{token-not-blank, blank-not-token}
 use Rattle.tables.specs.Good.{InText}
 use Rattle.cursor.specs.Passed.{Passed}
@@ -22,11 +23,16 @@ use Rattle.scan_parts.specs.Parsed.{Parsed, without, with}
 use Rattle.scan_parts.proofs.Standing.{stands-on, stands-run, halts}
 use Rattle.scan_parts.proofs.ReadyBehindValue.{not-there, uncons, value-ready, value-forward}
 
+-- no name begins here
+pub no-name : (extra : Extra) {s : List ℕ} {a e : ℕ} → Clear s a → Passed isToken s a e → e ≡ a → (o : Open) → a < length s
+    → step extra (semi o) a (getD s a 0) ≡ dead
+no-name extra c t e o h = rw (c .clear h, not-there t e h)
+
 module _ {extra : Extra} {s : List ℕ} where
   pub no-param-here : {a e : ℕ} → Clear s a → Passed isToken s a e → e ≡ a → (o : Open) → Stands extra s (semi o) a
-      → MalformedAt extra s a
-  no-param-here c t e o p =
-      halts p refl refl (λ h. rw (c .clear h, not-there t e h))
+      → References s (close o) → MalformedAt extra s a
+  no-param-here c t e o p r =
+      halts p refl refl (no-name extra c t e o) r
 
   name-passed : {a e : ℕ} (o : Open) → a < e → Run s isToken a e → Stands extra s (semi o) a → Stands extra s (name o a) e
   name-passed {a} o h t p =

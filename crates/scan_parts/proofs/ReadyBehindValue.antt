@@ -12,8 +12,9 @@ use lib.ListN.{length, getD}
 use Rattle.octets.specs.Sets.{isBlank, isToken}
 use Rattle.octets.proofs.Laws.{not-eqb}
 use Rattle.grammar.specs.Grammar.{Extra, Admissible, isBare, At, In, Run, run-end, run-more}
+use Rattle.grammar.specs.Targets.{References}
 use Rattle.grammar.specs.Place.{MalformedAt}
-use Rattle.grammar.specs.Machine.{equals, bare, wide, quote, after, Open, add, param}
+use Rattle.grammar.specs.Machine.{equals, bare, wide, quote, after, dead, step, Open, add, param, close}
 use Rattle.grammar.proofs.Classes.{token-not-blank, token-not-quote, extra-not-blank}
 use Rattle.tables.proofs.Texts.{inside-le}
 use Rattle.cursor.specs.Passed.{Passed}
@@ -43,18 +44,25 @@ neither false b e = e
 pub no-further : (extra : Extra) {s : List ℕ} {k e : ℕ} → Passed (isBare extra) s k e → e < length s → extra (getD s e 0) ≡ false
 no-further extra {s} {e = e} w h = neither (isToken (getD s e 0)) (extra (getD s e 0)) (w .stops h)
 
+-- no value begins here
+pub no-value-step : (extra : Extra) {s : List ℕ} {v k e : ℕ} → Clear s v → (v < length s → eqb (getD s v 0) 34 ≡ false) → Passed isToken s v k
+    → Passed (isBare extra) s k e → e ≡ v → (o : Open) (n m : ℕ) → v < length s → step extra (equals o n m) v (getD s v 0) ≡ dead
+no-value-step extra {s} {v} {k} {e} c q t w z o n m h =
+    let y : k ≡ v = omega (arith, t .forward, w .forward) in
+    let none : v < length s → extra (getD s v 0) ≡ false =
+    subst (λ (i : ℕ). i < length s → extra (getD s i 0) ≡ false) z (no-further extra w)
+    in
+    rw (c .clear h, q h, not-there t y h, none h)
+
 module _ {extra : Extra} {s : List ℕ} where
   pub ready-after : {o : Open} {i : ℕ} → Stands extra s (after o) i → Ready extra s o i
   ready-after {o} p = record { state = after o; stands = p; settles = refl; steps = λ h. refl }
 
   pub no-value-here : {v k e : ℕ} → Clear s v → (v < length s → eqb (getD s v 0) 34 ≡ false) → Passed isToken s v k
-      → Passed (isBare extra) s k e → e ≡ v → (o : Open) (n m : ℕ) → Stands extra s (equals o n m) v → MalformedAt extra s v
-  no-value-here {v} {k} {e} c q t w z o n m p =
-      let y : k ≡ v = omega (arith, t .forward, w .forward) in
-      let none : v < length s → extra (getD s v 0) ≡ false =
-      subst (λ (i : ℕ). i < length s → extra (getD s i 0) ≡ false) z (no-further extra w)
-      in
-      halts p refl refl (λ h. rw (c .clear h, q h, not-there t y h, none h))
+      → Passed (isBare extra) s k e → e ≡ v → (o : Open) (n m : ℕ) → Stands extra s (equals o n m) v
+      → References s (close o) → MalformedAt extra s v
+  no-value-here {v} {k} {e} c q t w z o n m p r =
+      halts p refl refl (no-value-step extra c q t w z o n m) r
 
   pub quote-starts : {v j : ℕ} → At s v 34 → j ≡ v + 1 → (o : Open) (n e : ℕ) → Stands extra s (equals o n e) v
       → Stands extra s (quote o n e (suc v)) j

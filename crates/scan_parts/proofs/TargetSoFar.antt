@@ -91,10 +91,10 @@ module _ {s : List ℕ} where
         go : {p : Place} → TripleScanned s j (Stuck p) → TargetScanned s a (Stuck p)
         go (no-digit f) =
             no-target
-            (λ extra ls b p.
+            (λ extra ls b p r.
             f extra ls b
             (subst (Stands extra s (percent ls b)) (sym (k ∙ add-one i))
-            (stands-on (percent ls b) (target-stands ls b (g .derived) p) (q .inside) (rw (q .is)))))
+            (stands-on (percent ls b) (target-stands ls b (g .derived) p) (q .inside) (rw (q .is)))) r)
 
   -- the cursor behind a triple is in the text
   pub past-inside : {j : ℕ} {d : Cursor} {r : Scan} → TripleScanned s j r → r ≡ Past d → (suc j ≤ d .at .0) × (d .at .0 ≤ length s)
@@ -104,5 +104,5 @@ module _ {s : List ℕ} where
       → TargetScanned s a (Stuck (record { 0 = i }))
   no-octet {y = y} g l e k f =
       no-target
-      (λ extra ls b p.
-      halts (target-stands ls b (g .derived) p) refl refl (λ h. rw (g .stops h, k .not (not-true y f) h, l .not e h)))
+      (λ extra ls b p r.
+      halts (target-stands ls b (g .derived) p) refl refl (λ h. rw (g .stops h, k .not (not-true y f) h, l .not e h)) r)

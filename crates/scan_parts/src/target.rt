@@ -1,10 +1,12 @@
-// A target, up to its `>`.
+// A target, up to its `>`: a reference.
 ghost use Prim.Native.Nat.{_≤_};
 ghost use lib.ListN.{length};
 ghost use Rattle.octets.specs.Sets.{isHex};
-ghost use Rattle.scan_parts.specs.Scanned.{OneScanned, TripleScanned, TargetScanned};
+ghost use Rattle.scan_parts.specs.Scanned.{OneScanned, TripleScanned, TargetScanned, ReferenceScanned};
 use crate::Scan;
 use cursor::Cursor;
+use reference_octet::accepts;
+use reference_scan::judge;
 
 // One hex digit.
 fn past_hex(s: &[u8], c: Cursor) -> Scan
@@ -28,8 +30,8 @@ fn past_triple(s: &[u8], c: Cursor) -> Scan
     }
 }
 
-// A target, up to its `>`.
-pub fn past_target(s: &[u8], from: Cursor) -> Scan
+// Octets and triples of a target, up to its `>`.
+fn past_units(s: &[u8], from: Cursor) -> Scan
     requires { ⌜ from .at .0 ≤ length (now s) ⌝ }
     ensures { λ r. ⌜ TargetScanned (now (s .entry)) (from .at .0) r ⌝ }
 {
@@ -50,5 +52,24 @@ pub fn past_target(s: &[u8], from: Cursor) -> Scan
                 c = d.past_target(s);
             }
         }
+    }
+}
+
+// A target, judged as a reference. What the judging takes are a target's octets and triples, so one pass is enough where it is a
+// reference. One that is none is passed again, for its `>`, behind which its start is told, or for what stands where no octet of it may.
+pub fn past_target(s: &[u8], from: Cursor) -> Scan
+    requires { ⌜ from .at .0 ≤ length (now s) ⌝ }
+    ensures { λ r. ⌜ ReferenceScanned (now (s .entry)) (from .at .0) r ⌝ }
+{
+    let start = from.at;
+    let judged = judge(s, start, 0);
+    let end = judged.at;
+    let c = Cursor { at: end };
+    if accepts(judged.state) && c.sees(s, b'>') {
+        return Scan::Past(c);
+    }
+    match past_units(s, from) {
+        Scan::Stuck(p) => Scan::Stuck(p),
+        Scan::Past(_) => Scan::Stuck(start),
     }
 }

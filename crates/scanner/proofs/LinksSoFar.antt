@@ -10,7 +10,9 @@ use borrow.Author.Tests.{not-true}
 use Rattle.octets.specs.Sets.{isBlank}
 use Rattle.grammar.specs.Link.{Link}
 use Rattle.grammar.specs.Grammar.{Extra, Admissible, At, Field}
+use Rattle.grammar.specs.Targets.{ReferenceAt, References}
 use Rattle.grammar.specs.Kept.{keptLink}
+use Rattle.grammar.proofs.TargetsHeld.{each-reversed}
 use Rattle.grammar.specs.Records.{countParams}
 use Rattle.grammar.specs.Machine.{gap, target}
 use Rattle.kinds.specs.declared.Counts.{Counts}
@@ -40,19 +42,20 @@ use Rattle.scanner.proofs.BetweenLinks.{
 pub record LinksSoFar (extra : Extra) (s : List ℕ) (i : ℕ) (n : Counts) : Type 0 where
   pub links : List Link
   pub stands : Stands extra s (gap links) i
+  pub references : References s links
   pub link-count : n .links ≡ length links
   pub param-count : n .params ≡ countParams (map (keptLink s) links)
   pub few-links : n .links ≤ i
   pub few-params : n .params ≤ i
 
 -- a header that ends with these links read has their counts
-counts : (extra : Extra) (s : List ℕ) (ls : List Link) {n : Counts} → Field extra s (reverse ls) → n .links ≡ length ls
+counts : (extra : Extra) (s : List ℕ) (ls : List Link) {n : Counts} → Field extra s (reverse ls) → References s ls → n .links ≡ length ls
     → n .params ≡ countParams (map (keptLink s) ls) → HeaderScanned extra s (Counted n)
-counts extra s ls f x y =
+counts extra s ls f refs x y =
     counted
     (record {
       reading = ordered s ls;
-      reads = record { links = reverse ls; derived = f; kept = refl };
+      reads = record { links = reverse ls; derived = f; references = each-reversed (ReferenceAt s) ls refs; kept = refl };
       links = x ∙ sym (ordered-length s ls);
       params = y ∙ sym (ordered-count s ls);
     })
@@ -68,6 +71,7 @@ module _ {extra : Extra} {s : List ℕ} where
       (record {
         links = [];
         stands = stands-start a s;
+        references = tt;
         link-count = refl;
         param-count = refl;
         few-links = omega arith;
@@ -79,13 +83,14 @@ module _ {extra : Extra} {s : List ℕ} where
     here = gap-blanks (b .stands) p
 
     pub ended : length s ≤ j → HeaderScanned extra s (Counted n)
-    ended h = counts extra s (b .links) (finishes here h refl) (b .link-count) (b .param-count)
+    ended h = counts extra s (b .links) (finishes here h refl) (b .references) (b .link-count) (b .param-count)
 
     pub comma : {k : ℕ} → At s j 44 → k ≡ j + 1 → LinksSoFar extra s k n
     comma q e =
         record {
           links = b .links;
           stands = gap-comma here q e;
+          references = b .references;
           link-count = b .link-count;
           param-count = b .param-count;
           few-links = omega (arith, b .few-links, p .forward);
@@ -94,7 +99,7 @@ module _ {extra : Extra} {s : List ℕ} where
 
     pub no-start : {x y : Bool} → j < length s → Looked s j 44 x → x ≡ false → Looked s j 60 y → not y ≡ true
         → HeaderScanned extra s (Malformed (record { 0 = j }))
-    no-start {y = y} h l e k f = malformed-at (halts-at here refl h (rw (p .stops h, l .not e h, k .not (not-true y f) h)))
+    no-start {y = y} h l e k f = malformed-at (halts-at here refl h (rw (p .stops h, l .not e h, k .not (not-true y f) h)) (b .references))
 
     module _ {k : ℕ} {r : LinkScan} (q : At s j 60) (e : k ≡ j + 1) (l : LinkScanned extra s k r) where
       begun : Stands extra s (target (b .links) k) k
@@ -104,14 +109,21 @@ module _ {extra : Extra} {s : List ℕ} where
       link-stuck z = go (subst (LinkScanned extra s k) z l)
         where
           go : {p : Place} → LinkScanned extra s k (NoLink p) → HeaderScanned extra s (Malformed p)
-          go (no-link f) = malformed-at (f (b .links) begun)
+          go (no-link f) = malformed-at (f (b .links) begun (b .references))
 
       module _ {d : Cursor} {x : ℕ} (z : r ≡ Whole d x) where
-        pub whole : WholeLink extra s k (d .at .0) x
-        whole = go (subst (LinkScanned extra s k) z l)
+        judged : (w : WholeLink extra s k (d .at .0) x) × ReferenceAt s k (w .close)
+        judged = go (subst (LinkScanned extra s k) z l)
           where
-            go : {d : Cursor} {x : ℕ} → LinkScanned extra s k (Whole d x) → WholeLink extra s k (d .at .0) x
-            go (a-link w) = w
+            go : {d : Cursor} {x : ℕ} → LinkScanned extra s k (Whole d x) → (w : WholeLink extra s k (d .at .0) x) × ReferenceAt s k (w .close)
+            go (a-link w y) = (w, y)
+
+        pub whole : WholeLink extra s k (d .at .0) x
+        whole = judged .0
+
+        reference : ReferenceAt s k (whole .close)
+        unfolding whole
+        reference = judged .1
 
         -- the counts stay below the place
         pub whole-forward : (x + suc k ≤ d .at .0) × (d .at .0 ≤ length s)
@@ -122,13 +134,14 @@ module _ {extra : Extra} {s : List ℕ} where
 
         pub link-ended : length s ≤ d .at .0 → HeaderScanned extra s (Counted (oneLinkMore n x))
         link-ended h =
-            counts extra s (linkOf whole ∷ b .links) (link-last whole begun h) more-links (kept-with whole begun (b .param-count))
+            counts extra s (linkOf whole ∷ b .links) (link-last whole begun h) (reference, b .references) more-links (kept-with whole begun (b .param-count))
 
         pub more : {v : ℕ} → d .at .0 < length s → v ≡ d .at .0 + 1 → LinksSoFar extra s v (oneLinkMore n x)
         more h f =
             record {
               links = linkOf whole ∷ b .links;
               stands = link-comma whole begun h f;
+              references = (reference, b .references);
               link-count = more-links;
               param-count = kept-with whole begun (b .param-count);
               few-links = omega (arith, b .few-links, p .forward, whole-forward .0);

@@ -90,9 +90,9 @@ module _ {extra : Extra} {s : List ℕ} where
       → p ≡ false → Looked s j 59 q → not q ≡ true → ParamsScanned extra s a (NoLink (record { 0 = j }))
   neither {q = q} g b h l e k f =
       no-params-here
-      (λ ls c d r.
+      (λ ls c d r x y.
       ready-halts (ready-blanks (chain-ready ls c d (g .chain) r) (b .run)) h (b .stops h) (k .not (not-true q f) h)
-      (l .not e h))
+      (l .not e h) (x, y))
 
   pub param-stuck : {a i j k e n : ℕ} {x : Seen} {qs : List Param} {p : Place} {u : ParamScan} → ParamsSoFar extra s a i n x qs → Passed isBlank s i j → At s j 59
       → k ≡ j + 1 → Passed isBlank s k e → ParamScanned extra s e u → u ≡ NoParam p → ParamsScanned extra s a (NoLink p)
@@ -101,8 +101,8 @@ module _ {extra : Extra} {s : List ℕ} where
       go : {p : Place} → ParamScanned extra s e (NoParam p) → ParamsScanned extra s a (NoLink p)
       go (no-param f) =
           no-params-here
-          (λ ls c d r.
+          (λ ls c d r x y.
           f (holding ls c d qs)
           (stands-run (λ i x y. rw y) (v .run)
           (subst (Stands extra s (semi (holding ls c d qs))) (sym (l ∙ add-one j))
-          (ready-semi (ready-blanks (chain-ready ls c d (g .chain) r) (w .run)) q))))
+          (ready-semi (ready-blanks (chain-ready ls c d (g .chain) r) (w .run)) q))) (x, y))

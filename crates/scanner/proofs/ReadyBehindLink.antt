@@ -15,7 +15,7 @@ use Rattle.cursor.specs.declared.Cursor.{Cursor}
 use Rattle.scan_parts.specs.declared.Scan.{Scan}
 use Rattle.scan_parts.specs.declared.Scan.the-variants.{Stuck, Past}
 use Rattle.scan_parts.specs.Stands.{Stands, Ready}
-use Rattle.scan_parts.specs.Scanned.{TargetScanned, no-target, closed}
+use Rattle.scan_parts.specs.Scanned.{ReferenceScanned, no-reference, a-reference}
 use Rattle.scan_parts.proofs.Standing.{stands-on}
 use Rattle.scan_parts.proofs.TargetSoFar.{target-stands}
 use Rattle.scan_parts.proofs.ReadyBehindValue.{ready-after}
@@ -24,11 +24,11 @@ use Rattle.scanner.specs.declared.link.LinkScan.the-variants.{NoLink}
 use Rattle.scanner.specs.Linked.{ParamsScanned, no-params-here, all-params, WholeLink, LinkScanned, no-link, a-link}
 use Rattle.scanner.proofs.ReadyBehindParams.{holding, params-forward, ready-blanks, chain-ready}
 
-pub target-inside : {s : List ℕ} {a : ℕ} {c : Cursor} {r : Scan} → TargetScanned s a r → r ≡ Past c → c .at .0 < length s
-target-inside {s} {a} t e = go (subst (TargetScanned s a) e t)
+pub target-inside : {s : List ℕ} {a : ℕ} {c : Cursor} {r : Scan} → ReferenceScanned s a r → r ≡ Past c → c .at .0 < length s
+target-inside {s} {a} t e = go (subst (ReferenceScanned s a) e t)
   where
-    go : {c : Cursor} → TargetScanned s a (Past c) → c .at .0 < length s
-    go (closed t q) = q .inside
+    go : {c : Cursor} → ReferenceScanned s a (Past c) → c .at .0 < length s
+    go (a-reference t y q) = q .inside
 
 module _ {extra : Extra} {s : List ℕ} where
   pub after-close : {a k : ℕ} (ls : List Link) → Target s a k → At s k 62 → Stands extra s (target ls a) a
@@ -37,21 +37,21 @@ module _ {extra : Extra} {s : List ℕ} where
   after-close {a} {k} ls t q p =
       stands-on (after (opened ls a k)) (target-stands ls a t p) (q .inside) (rw (q .is))
 
-  pub target-stuck : {a : ℕ} {p : Place} {r : Scan} → TargetScanned s a r → r ≡ Stuck p → LinkScanned extra s a (NoLink p)
-  target-stuck {a} t e = go (subst (TargetScanned s a) e t)
+  pub target-stuck : {a : ℕ} {p : Place} {r : Scan} → ReferenceScanned s a r → r ≡ Stuck p → LinkScanned extra s a (NoLink p)
+  target-stuck {a} t e = go (subst (ReferenceScanned s a) e t)
     where
-      go : {p : Place} → TargetScanned s a (Stuck p) → LinkScanned extra s a (NoLink p)
-      go (no-target f) = no-link (λ ls p. f extra ls a p)
+      go : {p : Place} → ReferenceScanned s a (Stuck p) → LinkScanned extra s a (NoLink p)
+      go (no-reference f) = no-link (λ ls p refs. f extra ls p refs)
 
-  pub target-passed : {a j : ℕ} {c : Cursor} {r : Scan} {u : LinkScan} → TargetScanned s a r → r ≡ Past c → j ≡ c .at .0 + 1
+  pub target-passed : {a j : ℕ} {c : Cursor} {r : Scan} {u : LinkScan} → ReferenceScanned s a r → r ≡ Past c → j ≡ c .at .0 + 1
       → ParamsScanned extra s j u → LinkScanned extra s a u
   target-passed {a} {j} {c} {u = u} t e k p =
-      go (subst (TargetScanned s a) e t) (subst (λ (n : ℕ). ParamsScanned extra s n u) (k ∙ add-one (c .at .0)) p)
+      go (subst (ReferenceScanned s a) e t) (subst (λ (n : ℕ). ParamsScanned extra s n u) (k ∙ add-one (c .at .0)) p)
     where
-      go : {c : Cursor} {u : LinkScan} → TargetScanned s a (Past c) → ParamsScanned extra s (suc (c .at .0)) u → LinkScanned extra s a u
-      go (closed {c = c} t q) (no-params-here f) =
-          no-link (λ ls p. f ls a (c .at .0) (ready-after (after-close ls t q p)))
-      go (closed t q) (all-params w) = a-link (record { close = _; target = t; closed = q; rest = w })
+      go : {c : Cursor} {u : LinkScan} → ReferenceScanned s a (Past c) → ParamsScanned extra s (suc (c .at .0)) u → LinkScanned extra s a u
+      go (a-reference {c = c} t y q) (no-params-here f) =
+          no-link (λ ls p refs. f ls a (c .at .0) (ready-after (after-close ls t q p)) y refs)
+      go (a-reference t y q) (all-params w) = a-link (record { close = _; target = t; closed = q; rest = w }) y
 
   -- the link, with all its parameters
   abbrev pub linkOf : {a j n : ℕ} → WholeLink extra s a j n → Link

@@ -10,9 +10,11 @@ use lib.ListN.{length, getD, length-reverse}
 use Rattle.octets.specs.Sets.{isBlank}
 use Rattle.grammar.specs.Link.{Link, Param}
 use Rattle.grammar.specs.Grammar.{Extra, At, Run, run-end, run-more}
+use Rattle.grammar.specs.Targets.{ReferenceAt, References}
 use Rattle.grammar.specs.Place.{MalformedAt}
 use Rattle.grammar.specs.Machine.{State, gap, after, semi, Open, settle, close, opened}
 use Rattle.grammar.proofs.Prefix.{isDead, is-dead}
+use Rattle.grammar.proofs.TargetsHeld.{each-unsettled}
 use Rattle.scan_parts.specs.Stands.{Stands, Ready}
 use Rattle.scan_parts.proofs.Standing.{stands-on, stands-run, halts-at}
 use Rattle.scan_parts.proofs.ReadyBehindValue.{ready-after}
@@ -68,9 +70,10 @@ module _ {extra : Extra} {s : List ℕ} where
   ready-comma {o} r q = stands-on (gap (close o)) (r .stands) (q .inside) (r .steps (q .inside) ∙ rw (q .is))
 
   pub ready-halts : {o : Open} {j : ℕ} → Ready extra s o j → j < length s → isBlank (getD s j 0) ≡ false → eqb (getD s j 0) 59 ≡ false
-      → eqb (getD s j 0) 44 ≡ false → MalformedAt extra s j
-  ready-halts {o} {j} r h b x y =
+      → eqb (getD s j 0) 44 ≡ false → References s (close o) → MalformedAt extra s j
+  ready-halts {o} {j} r h b x y refs =
       halts-at (r .stands) (settled-alive (r .state) j (close o) (r .settles)) h (r .steps h ∙ rw (b, x, y))
+      (each-unsettled (ReferenceAt s) (r .state) j (r .settles) refs)
 
   pub chain-ready : {a i : ℕ} {qs : List Param} (ls : List Link) (b k : ℕ) → Chain extra s a qs i → Ready extra s (opened ls b k) a
       → Ready extra s (holding ls b k qs) i

@@ -7,6 +7,7 @@ use lib.ListN.{length}
 use Rattle.octets.specs.Sets.{isBlank}
 use Rattle.grammar.specs.Link.{Link, Param}
 use Rattle.grammar.specs.Grammar.{Extra, At, Target}
+use Rattle.grammar.specs.Targets.{ReferenceAt, References}
 use Rattle.grammar.specs.Kept.{keepAfter, Reading}
 use Rattle.grammar.specs.Records.{countParams}
 use Rattle.grammar.specs.Place.{MalformedAt}
@@ -38,7 +39,8 @@ pub record Params (extra : Extra) (s : List ℕ) (a j n : ℕ) : Type 0 where
   pub kept : n ≡ length (keepAfter s [] (reverse params))
 
 pub data ParamsScanned (extra : Extra) (s : List ℕ) (a : ℕ) : LinkScan → Type 0 where
-  no-params-here : {p : Place} → ((ls : List Link) (b k : ℕ) → Ready extra s (opened ls b k) a → MalformedAt extra s (p .0))
+  no-params-here : {p : Place} → ((ls : List Link) (b k : ℕ) → Ready extra s (opened ls b k) a → ReferenceAt s b k → References s ls
+      → MalformedAt extra s (p .0))
       → ParamsScanned extra s a (NoLink p)
   all-params : {c : Cursor} {n : ℕ} → Params extra s a (c .at .0) n → ParamsScanned extra s a (Whole c n)
 
@@ -50,8 +52,9 @@ pub record WholeLink (extra : Extra) (s : List ℕ) (a j n : ℕ) : Type 0 where
   pub rest : Params extra s (suc close) j n
 
 pub data LinkScanned (extra : Extra) (s : List ℕ) (a : ℕ) : LinkScan → Type 0 where
-  no-link : {p : Place} → ((ls : List Link) → Stands extra s (target ls a) a → MalformedAt extra s (p .0)) → LinkScanned extra s a (NoLink p)
-  a-link : {c : Cursor} {n : ℕ} → WholeLink extra s a (c .at .0) n → LinkScanned extra s a (Whole c n)
+  no-link : {p : Place} → ((ls : List Link) → Stands extra s (target ls a) a → References s ls → MalformedAt extra s (p .0))
+      → LinkScanned extra s a (NoLink p)
+  a-link : {c : Cursor} {n : ℕ} (w : WholeLink extra s a (c .at .0) n) → ReferenceAt s a (w .close) → LinkScanned extra s a (Whole c n)
 
 -- the counts are those of the header's reading
 pub record CountsOf (extra : Extra) (s : List ℕ) (n : Counts) : Type 0 where

@@ -70,6 +70,7 @@ module _ (extra : Extra) (s L P : List ℕ) where
             record {
               target-span = l .targets i h .span;
               target = l .targets i h .target;
+              reference = l .targets i h .reference;
               params = p i h .each;
               once = p i h .once;
             }
@@ -78,7 +79,7 @@ module _ (extra : Extra) (s L P : List ℕ) where
     linked-of g =
         record {
           follows = g .follows;
-          targets = λ i h. record { span = good-link g h .target-span; target = good-link g h .target };
+          targets = λ i h. record { span = good-link g h .target-span; target = good-link g h .target; reference = good-link g h .reference };
         }
 
     pub params-of : Good extra (tableOf s L P n m) → EachParams extra s L P n

@@ -4,3 +4,4 @@ mod OfLinks
 mod GoodParts
 mod StatesAsked
 pub mod EntryOutcomes
+pub mod Judged

@@ -4,14 +4,16 @@ use mathlib.Core.List.{List, []}
 use lib.ListN.{getD}
 use Rattle.grammar.specs.Grammar.{Extra, Target}
 use Rattle.grammar.specs.Records.{linkWidth, linkRoom, paramRoom}
+use Rattle.grammar.specs.Targets.{ReferenceAt}
 use Rattle.tables.specs.Table.{firstOf, countOf}
 use Rattle.tables.specs.Good.{InText, Follows}
 use Rattle.param_check.specs.Params.{GoodParams}
 
--- the span lies in the text, and is a target
+-- the span lies in the text, is a target and a reference
 pub record GoodTarget (s : List ℕ) (a e : ℕ) : Type 0 where
   pub span : InText s a e
   pub target : Target s a e
+  pub reference : ReferenceAt s a e
 
 -- of n links each one's parameters begin where the former's end, the last one's end at m, and each target is good
 pub record Linked (s L : List ℕ) (n m : ℕ) : Type 0 where

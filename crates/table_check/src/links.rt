@@ -12,18 +12,17 @@ use kinds::ParamNumber;
 use kinds::Span;
 use octets::editions::Edition;
 use param_check::are_good_params;
-use part_check::PartKind;
-use part_check::is_part;
 use part_check::is_span;
 use records::link_at;
 use records::link_room;
 use records::param_room;
+use reference_scan::is_reference;
 
-// Whether the span lies in the text, and is a target.
+// Whether the span lies in the text, and is a reference, and so a target.
 fn is_good_target(s: &[u8], target: Span) -> bool
     ensures { λ r. ⌜ Decides r (GoodTarget (now (s .entry)) (target .from .0) (target .to .0)) ⌝ }
 {
-    is_span(s, target) && is_part(s, target, PartKind::Target)
+    is_span(s, target) && is_reference(s, target)
 }
 
 // Whether each link's parameters begin where the former's end, the last link's end at the parameter count, and each target is good. The

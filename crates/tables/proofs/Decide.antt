@@ -10,6 +10,7 @@ use mathlib.Core.List.{List, [], _∷_}
 use lib.ListN.{length, getD}
 use Rattle.octets.specs.Sets.{isToken, isPlain, isEscapable, isTarget, isHex}
 use Rattle.grammar.specs.Link.{Link, Param}
+use Rattle.grammar.proofs.Places.{judged}
 use Rattle.grammar.specs.Grammar.{At, In, Run, run-end, run-more, Token, Inside, inside-end, plain, pair}
 use Rattle.grammar.specs.Grammar.{Target, target-end, octet, triple, Extra, isBare, Wider, from-token}
 use Rattle.grammar.specs.Kept.{nameOf, codeOf}
@@ -216,11 +217,13 @@ each? {A} {P} d (x ∷ xs) = map-dec (λ p. each-more (p .0) (p .1)) split (Dec�
 
 link? : (extra : Extra) (s : List ℕ) (l : Link) → Dec (GoodLink extra s l)
 link? extra s l =
-    map-dec (λ q. record { target-span = q .0; target = q .1 .0; params = q .1 .1 .0; once = q .1 .1 .1 })
-    (λ g. (g .target-span, (g .target, (g .params, g .once))))
+    map-dec
+    (λ q. record { target-span = q .0; target = q .1 .0; reference = q .1 .1 .0; params = q .1 .1 .1 .0; once = q .1 .1 .1 .1 })
+    (λ g. (g .target-span, (g .target, (g .reference, (g .params, g .once)))))
     (Dec·and (span? s (l .targetFrom) (l .targetTo))
     (Dec·and (target? s (l .targetFrom) (l .targetTo))
-    (Dec·and (each? (param? extra s) (l .params)) (Bool-discrete (onceEach s [] (l .params)) true))))
+    (Dec·and (⊎-elim (λ y. yes y) (λ n. no n) (judged s (l .targetFrom) (l .targetTo)))
+    (Dec·and (each? (param? extra s) (l .params)) (Bool-discrete (onceEach s [] (l .params)) true)))))
 
 follows? : (L : List ℕ) (i n at m : ℕ) → Dec (Follows L i n at m)
 follows? L i zero at m = ℕ-discrete at m

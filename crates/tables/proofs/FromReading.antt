@@ -24,6 +24,7 @@ use Rattle.grammar.specs.Grammar.{
   and-one,
 }
 use Rattle.grammar.specs.Grammar.{link, empty, one, Items, last, comma}
+use Rattle.grammar.specs.Targets.{ReferenceAt, References}
 use Rattle.grammar.specs.Kept.{nameOf, among, isOnce, unless, keepAfter, keptLink}
 use Rattle.grammar.specs.Records.{linkRecords, paramRecords}
 use Rattle.grammar.proofs.Spans.{run-inside}
@@ -132,21 +133,23 @@ module _ (extra : Extra) (s : List ℕ) where
 
   -- ---- links
 
-  link-good : {i j : ℕ} {l : Link} → Grammar.OneLink extra s i j l → GoodLink extra s (keptLink s l)
+  link-good : {i j : ℕ} {l : Link} → Grammar.OneLink extra s i j l → ReferenceAt s (l .targetFrom) (l .targetTo)
+      → GoodLink extra s (keptLink s l)
   unfolding Agree
-  link-good (link {ps = ps} q t k d) =
+  link-good (link {ps = ps} q t k d) r =
       record {
         target-span = record { ordered = target-le s t; inside = omega (arith, k .inside) };
         target = t;
+        reference = r;
         params = keep-each [] (params-good d);
         once = once-kept [] [] ps (λ n o. refl);
       }
 
-  items-good : {i j : ℕ} {ls : List Link} → Items extra s i j ls → Each (GoodLink extra s) (map (keptLink s) ls)
-  items-good (last empty) = each-none
-  items-good (last (one l)) = each-more (link-good l) each-none
-  items-good (comma empty a q b it) = items-good it
-  items-good (comma (one l) a q b it) = each-more (link-good l) (items-good it)
+  items-good : {i j : ℕ} {ls : List Link} → Items extra s i j ls → References s ls → Each (GoodLink extra s) (map (keptLink s) ls)
+  items-good (last empty) r = each-none
+  items-good (last (one l)) r = each-more (link-good l (r .0)) each-none
+  items-good (comma empty a q b it) r = items-good it r
+  items-good (comma (one l) a q b it) r = each-more (link-good l (r .0)) (items-good it (r .1))
 
 pub read-good : ReadGood
 read-good extra h K X Y r =
@@ -157,7 +160,7 @@ read-good extra h K X Y r =
             param-room = omega (arith, length-append (paramRecords h K) Y, param-records-length h K);
             follows = filled-follows K X;
             links =
-                rw (filled-links h K X Y, r .kept) (items-good extra h (r .derived .items));
+                rw (filled-links h K X Y, r .kept) (items-good extra h (r .derived .items) (r .references));
             codes = filled-codes h K Y;
           };
       same-links = filled-links h K X Y;

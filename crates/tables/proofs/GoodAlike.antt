@@ -27,7 +27,7 @@ module _ (extra : Extra) (s : List ℕ) where
 
   link-alike : (l : Link) → GoodLink (further Rfc8288) s l → GoodLink extra s l
   link-alike l g =
-      record { target-span = g .target-span; target = g .target; params = each-map param-alike (g .params); once = g .once }
+      record { target-span = g .target-span; target = g .target; reference = g .reference; params = each-map param-alike (g .params); once = g .once }
 
 pub good-alike : GoodAlike
 good-alike Rfc8288 t g =

@@ -1,6 +1,7 @@
 -- The laws of tables, meanings and the written form.
 pub mod Texts
 pub mod Spelt
+pub mod ReferenceText
 pub mod Queries
 pub mod Back
 pub mod ReadBack

@@ -16,6 +16,8 @@ use Rattle.octets.proofs.Octets.{both}
 use Rattle.octets.proofs.Further.{older-plain}
 use Rattle.grammar.specs.Link.{Link, Param}
 use Rattle.grammar.specs.Grammar.{Token, isBare, Run, run-end, run-more}
+use Rattle.references.specs.AppendixA.{IsReference}
+use Rattle.grammar.specs.Targets.{References}
 use Rattle.grammar.specs.Kept.{nameOf, among, isOnce, unless, keepAfter, keptLink, Reading}
 use Rattle.grammar.specs.Records.{countParams}
 use Rattle.grammar.proofs.Readings.{one-reading}
@@ -106,6 +108,22 @@ module _ (s : List ℕ) where
       each-more (record { target = target-text s (g .target-span .inside) (g .target); params = params-text (g .params) })
       (links-text r)
 
+-- ---- its targets are references
+
+Referring : LinkMeaning → Type 0
+Referring m = IsReference (m .target)
+
+-- the octets of a target are its meaning
+good-refers : (s : List ℕ) {ls : List Link} → Each (GoodLink (further Rfc5988) s) ls → Each Referring (meanings s ls)
+unfolding Referring
+good-refers s each-none = each-none
+good-refers s (each-more g r) = each-more (g .reference) (good-refers s r)
+
+refers : (s : List ℕ) (ls : List Link) → Each Referring (meanings s ls) → References s ls
+unfolding Referring
+refers s [] each-none = tt
+refers s (l ∷ ls) (each-more r rs) = (r, refers s ls rs)
+
 -- ---- of its parameters all are kept
 
 -- no two of the meanings, nor one of them and one of the names `earlier`, share a name kept once
@@ -191,6 +209,9 @@ back t g =
                   after = run-end;
                   whole = b .ended;
                 };
+            references =
+                refers (written ms) (b .links)
+                (subst (λ (x : List LinkMeaning). Each Referring x) (sym (b .means)) (good-refers (t .text) (g .links)));
             kept = sym (keeps-all (written ms) (b .links) once);
           });
       link-count =

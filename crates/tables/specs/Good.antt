@@ -7,6 +7,7 @@ use mathlib.Core.List.{List, [], _∷_}
 use lib.ListN.{length}
 use Rattle.grammar.specs.Link.{Link, Param}
 use Rattle.grammar.specs.Grammar.{Extra, Token, Inside, Target, Wider}
+use Rattle.grammar.specs.Targets.{ReferenceAt}
 use Rattle.grammar.specs.Kept.{nameOf, among, codeOf, isOnce}
 use Rattle.grammar.specs.Records.{linkRoom, paramRoom}
 use Rattle.tables.specs.Table.{Table, paramAt, codeAt, firstOf, countOf, linksOf}
@@ -59,10 +60,11 @@ module _ (extra : Extra) (s : List ℕ) where
     pub name : Token s (p .nameFrom) (p .nameTo)
     pub value : GoodValue p
 
-  -- the target's span lies in the text and obeys the grammar, so do the parameters, and no two share a name kept once
+  -- the target's span lies in the text, obeys the grammar and is a reference, the parameters obey it, and no two share a name kept once
   pub record GoodLink (l : Link) : Type 0 where
     pub target-span : InText s (l .targetFrom) (l .targetTo)
     pub target : Target s (l .targetFrom) (l .targetTo)
+    pub reference : ReferenceAt s (l .targetFrom) (l .targetTo)
     pub params : Each GoodParam (l .params)
     pub once : onceEach s [] (l .params) ≡ true
 

@@ -1,5 +1,5 @@
 -- The law holds.
-use Rattle.grammar.proofs.Prefix.{cut-short}
+use Rattle.grammar.proofs.Places.{cut-short}
 use Rattle.grammar.proofs.cut_short.Statement.{statement}
 use Rattle.grammar.proofs.cut_short.Tie as tie
 

@@ -1,5 +1,5 @@
 -- The law holds.
-use Rattle.grammar.proofs.Prefix.{one-place}
+use Rattle.grammar.proofs.Places.{one-place}
 use Rattle.grammar.proofs.one_place.Statement.{statement}
 use Rattle.grammar.proofs.one_place.Tie as tie
 

@@ -1,107 +1,54 @@
--- The loop passes triples and runs of target octets; each return says why it ended there.
-use Prim.Native.Nat.{_-_}
-use native.Mathlib.Omega.{arith}
-use lib.ListN.{length}
-use borrow.Author.Tests.{not-false}
-use Rattle.scan_parts.specs.Scanned.{closed}
-use Rattle.scan_parts.proofs.TargetSoFar.{TargetSoFar, begin, since, more, past-inside, no-octet, no-triple}
+-- What the judging took is a reference; else the octets and triples tell where the target ends.
+use mathlib.Core.Path.{refl, sym, _∙_}
+use mathlib.Core.Logic.{⊎-elim}
+use mathlib.Core.Bool.{true≢false}
+use borrow.Author.Tests.{eq-eqb}
+use Rattle.scan_parts.proofs.ReferenceOrNot.{is-reference, stuck-all-the-same, closed-all-the-same}
 use borrow.Author.Needs.{needs}
 use Rattle.scan_parts.proofs.target.past_target.Statement.{statement}
 use Rattle.scan_parts.proofs.target.past_target.Tie as tie
 
-abbrev Inv-loop : tie.InvT-loop
-Inv-loop s c₀ c = TargetSoFar s (c₀ .at .0) (c .at .0)
+judge-requires : tie.Need-judge-requires
+judge-requires c κs = search needs
 
-abbrev μ-loop : tie.MeasureT-loop
-μ-loop s c₀ c = length s - c .at .0
+accepts-requires : tie.Need-accepts-requires
+accepts-requires c κs = search needs
 
-past-target-requires : tie.Need-past-target-requires Inv-loop μ-loop
-past-target-requires c κs = c .before .pre
-
-loop-holds : tie.Need-loop-holds Inv-loop μ-loop
-loop-holds c = begin (c .past-target .ensures)
-
-sees-requires : tie.Need-sees-requires Inv-loop μ-loop
+sees-requires : tie.Need-sees-requires
 sees-requires c κs = search needs
 
-returns : tie.Need-returns Inv-loop μ-loop
+returns : tie.Need-returns
 returns c =
-    let b1 = c .before .before .before in
-    closed (since (b1 .past-target .ensures) (c .before .before .loop .inv) .derived)
-    ((c .before .sees .ensures .yes) (c .if1 .taken))
+    is-reference (c .before .before .before .before .before .judge .ensures) refl (sym (c .before .before .before .accepts .ensures) ∙ c .before .before .if1 .taken)
+    ((c .before .sees .ensures .yes) (c .if2 .taken))
 
-sees-requires-2 : tie.Need-sees-requires-2 Inv-loop μ-loop
-sees-requires-2 c κs = search needs
+past-units-requires : tie.Need-past-units-requires
+past-units-requires c κs = search needs
 
-returns-2 : tie.Need-returns-2 Inv-loop μ-loop
-returns-2 c =
-    let b1 = c .before .before .before in
-    let b2 = b1 .before .before .before in
-    no-octet (since (b2 .past-target .ensures) (b1 .before .before .loop .inv)) (b1 .before .sees .ensures) (b1 .if1 .left)
-    (c .before .before .sees2 .ensures) (c .before .if2 .taken)
-
-past-octet-requires : tie.Need-past-octet-requires Inv-loop μ-loop
-past-octet-requires c κs = ((c .before .sees2 .ensures .yes) (not-false (c .before .sees2 .result) (c .if2 .left))) .inside
-
-past-triple-requires : tie.Need-past-triple-requires Inv-loop μ-loop
-past-triple-requires c κs = search needs
-
-enum-known-p : tie.Need-enum-known-p Inv-loop μ-loop
+enum-known-p : tie.Need-enum-known-p
 enum-known-p c = search needs
 
-returns-3 : tie.Need-returns-3 Inv-loop μ-loop
+enum-told : tie.Need-enum-told
+enum-told c = search needs
+
+returns-2 : tie.Need-returns-2
+returns-2 c = stuck-all-the-same (c .before .before .before .past-units .ensures) (c .before .p .given .1)
+
+returns-3 : tie.Need-returns-3
 returns-3 c =
-    let b1 = c .before .before .before in
-    let b2 = b1 .before .before .before in
-    let b3 = b2 .before .before .before in
-    no-triple (since (b3 .before .past-target .ensures) (b3 .loop .inv))
-    ((b2 .sees2 .ensures .yes) (not-false (b2 .sees2 .result) (b1 .before .before .if2 .left))) (b1 .before .past-octet .ensures)
-    (b1 .past-triple .ensures) (c .before .p .given .1)
-
-enum-known-d : tie.Need-enum-known-d Inv-loop μ-loop
-enum-known-d c = search needs
-
-past-target-requires-2 : tie.Need-past-target-requires-2 Inv-loop μ-loop
-past-target-requires-2 c κs = past-inside (c .before .before .before .past-triple .ensures) (c .before .d .given .1) .1
-
-loop-less : tie.Need-loop-less Inv-loop μ-loop
-loop-less c =
-    let b1 = c .before .before .before .before in
-    let b2 = b1 .before .before .before in
-    omega (
-      arith,
-      past-inside (b1 .past-triple .ensures) (c .before .before .d .given .1) .0,
-      b1 .before .past-octet .ensures,
-      c .past-target2 .ensures .forward,
-      c .past-target2 .ensures .inside,
-      ((b2 .sees2 .ensures .yes) (not-false (b2 .sees2 .result) (b1 .before .before .if2 .left))) .inside,
-    )
-
-loop-again : tie.Need-loop-again Inv-loop μ-loop
-loop-again c =
-    let b1 = c .before .before .before .before in
-    let b2 = b1 .before .before .before in
-    let b3 = b2 .before .before .before in
-    more (b3 .loop .inv) ((b2 .sees2 .ensures .yes) (not-false (b2 .sees2 .result) (b1 .before .before .if2 .left)))
-    (b1 .before .past-octet .ensures) (b1 .past-triple .ensures) (c .before .before .d .given .1) (c .past-target2 .ensures)
+    closed-all-the-same (c .before .before .before .before .before .before .judge .ensures) (c .before .before .past-units .ensures) (c .enum-told .given .1)
+    (⊎-elim (λ w q y. true≢false (sym (eq-eqb _ 62 (q .is)) ∙ (w .1 .ensures .not) (w .2 .left) (q .inside))) (λ w q y. true≢false (sym y ∙ sym (c .before .before .before .before .accepts .ensures) ∙ w .left)) (c .before .before .before .if1 .came))
 
 pub past-target-spec : {M : Type 1} → statement M
 past-target-spec =
     tie.close
     (tie.spec
-    Inv-loop
-    μ-loop
-    past-target-requires
-    loop-holds
+    judge-requires
+    accepts-requires
     sees-requires
     returns
-    sees-requires-2
-    returns-2
-    past-octet-requires
-    past-triple-requires
+    past-units-requires
     enum-known-p
-    returns-3
-    enum-known-d
-    past-target-requires-2
-    loop-less
-    loop-again)
+    enum-told
+    returns-2
+    returns-3)

@@ -1,16 +1,16 @@
 -- The loop passes the part unit by unit: what is left of it tells what it is.
 use Prim.Native.Nat.{_-_}
 use native.Mathlib.Omega.{arith}
-use Rattle.part_check.specs.Units.{IsPart}
+use Rattle.grammar.specs.Grammar.{Inside}
 use Rattle.part_check.proofs.Onward.{Onward, begin, further, stopped, whole}
-use Rattle.part_check.proofs.is_part.Statement.{statement}
-use Rattle.part_check.proofs.is_part.Tie as tie
+use Rattle.part_check.proofs.is_inside.Statement.{statement}
+use Rattle.part_check.proofs.is_inside.Tie as tie
 
 abbrev Inv-loop : tie.InvT-loop
-Inv-loop s kind at₀ to at = Onward (IsPart kind s) (at₀ .0) (at .0) (to .0)
+Inv-loop s at₀ to at = Onward (Inside s) (at₀ .0) (at .0) (to .0)
 
 abbrev μ-loop : tie.MeasureT-loop
-μ-loop s kind at₀ to at = to .0 - at .0
+μ-loop s at₀ to at = to .0 - at .0
 
 loop-holds : tie.Need-loop-holds Inv-loop μ-loop
 loop-holds c = begin (c .before .before .before .pre .ordered)
@@ -32,9 +32,9 @@ loop-again c = further (c .before .before .before .before .before .before .befor
 returns-2 : tie.Need-returns-2 Inv-loop μ-loop
 returns-2 c =
     let start = c .before .before .before .before .before .before .before in
-    whole (start .args .kind) (start .args .s .now) (c .before .before .before .loop .inv) (c .if1 .left)
+    whole (start .args .s .now) (c .before .before .before .loop .inv) (c .if1 .left)
 
-pub is-part-spec : {M : Type 1} → statement M
-is-part-spec =
+pub is-inside-spec : {M : Type 1} → statement M
+is-inside-spec =
     tie.close
     (tie.spec Inv-loop μ-loop loop-holds past-unit-requires returns loop-less loop-again returns-2)

@@ -1,0 +1,169 @@
+-- Where the target that is open began: before the part, or in it; and it is only in a target that one is refused.
+use Prim.Native.Nat.{ℕ, zero, suc, _+_, _≤_}
+use native.Mathlib.Omega.{arith}
+use mathlib.Core.Path.{_≡_, refl, sym, subst, _∙_}
+use mathlib.Core.Bool.{Bool, true, false, cond, true≢false, false≢true}
+use mathlib.Core.Logic.{_⊎_, inl, inr}
+use mathlib.Core.List.{List}
+use lib.Dec.{eqb}
+use lib.ListN.{getD}
+use borrow.Author.Tests.{eqb-false}
+use Rattle.octets.specs.Sets.{isBlank, isToken, isPlain, isEscapable}
+use Rattle.reference_steps.specs.Machine as judge
+use Rattle.grammar.specs.Grammar.{Extra}
+use Rattle.phases.specs.declared.spot.Spot.{Spot}
+use Rattle.phases.specs.Steps.{stuck, firstOf, tokenOrBlank, linkEndIn, nameEndIn, orIn, valueStartIn, stepIn}
+use Rattle.phases.specs.Spots.{unfit, spot, flat, isOpen, behindTarget, onward, Leads, here, further}
+
+-- ---- from a phase outside targets
+
+-- a `<` opens one, and all else stays outside
+data Out : ℕ → Type 0 where
+  opens : Out 1
+  outside : {n : ℕ} → isOpen n ≡ false → eqb n unfit ≡ false → Out n
+
+choose : (b : Bool) {x y : ℕ} → Out x → Out y → Out (cond b x y)
+choose true p q = p
+choose false p q = q
+
+-- a phase by its number
+nowhere : Out 12
+nowhere = outside refl refl
+
+module _ (c : ℕ) where
+  link-out : {b : ℕ} → Out b → Out (linkEndIn b c)
+  unfolding linkEndIn firstOf
+  link-out o =
+      choose (eqb c 59) (outside refl refl)
+      (choose (eqb c 44) (outside refl refl) (choose (isBlank c) o nowhere))
+
+  name-out : Out (nameEndIn c)
+  unfolding nameEndIn
+  name-out = choose (eqb c 61) (outside refl refl) (link-out (outside refl refl))
+
+  or-out : (f : ℕ → Bool) {e p : ℕ} → Out e → Out p → Out (orIn f e c p)
+  unfolding orIn
+  or-out f {e} o q = choose (eqb e stuck) (choose (f c) q nowhere) o
+
+  token-out : {p b : ℕ} → Out p → Out b → Out (tokenOrBlank p b c)
+  unfolding tokenOrBlank
+  token-out p b = choose (isToken c) p (choose (isBlank c) b nowhere)
+
+out-step : (extra : Extra) (p c : ℕ) → isOpen p ≡ false → Out (stepIn extra p c)
+unfolding stepIn firstOf valueStartIn
+out-step extra zero c o =
+    choose (eqb c 60) opens (choose (eqb c 44) (outside refl refl) (choose (isBlank c) (outside refl refl) nowhere))
+out-step extra (suc zero) c o = absurd (true≢false o)
+out-step extra (suc (suc zero)) c o = absurd (true≢false o)
+out-step extra (suc (suc (suc zero))) c o = absurd (true≢false o)
+out-step extra (suc (suc (suc (suc zero)))) c o = link-out c (outside refl refl)
+out-step extra (suc (suc (suc (suc (suc zero))))) c o =
+    token-out c (outside refl refl) (outside refl refl)
+out-step extra (suc (suc (suc (suc (suc (suc zero)))))) c o = or-out c isToken (name-out c) (outside refl refl)
+out-step extra (suc (suc (suc (suc (suc (suc (suc zero))))))) c o = name-out c
+out-step extra (suc (suc (suc (suc (suc (suc (suc (suc zero)))))))) c o =
+    choose (eqb c 34) (outside refl refl)
+    (or-out c extra (token-out c (outside refl refl) (outside refl refl)) (outside refl refl))
+out-step extra (suc (suc (suc (suc (suc (suc (suc (suc (suc zero))))))))) c o =
+    or-out c extra (or-out c isToken (link-out c (outside refl refl)) (outside refl refl))
+    (outside refl refl)
+out-step extra (suc (suc (suc (suc (suc (suc (suc (suc (suc (suc zero)))))))))) c o =
+    choose (eqb c 34) (outside refl refl)
+    (choose (eqb c 92) (outside refl refl) (choose (isPlain c) (outside refl refl) nowhere))
+out-step extra (suc (suc (suc (suc (suc (suc (suc (suc (suc (suc (suc zero))))))))))) c o =
+    choose (isEscapable c) (outside refl refl) nowhere
+out-step extra (suc (suc (suc (suc (suc (suc (suc (suc (suc (suc (suc (suc p)))))))))))) c o = nowhere
+
+-- ---- one octet
+
+-- in a target its start stays, also where it is refused; outside, an open one begins behind the octet
+from-outside : {n : ℕ} (a : ℕ) → Out n → (cond (eqb n 1) (spot 1 a 0) (flat n) .phase ≡ unfit → ⊥)
+    × (isOpen (cond (eqb n 1) (spot 1 a 0) (flat n) .phase) ≡ true → cond (eqb n 1) (spot 1 a 0) (flat n) .target ≡ a)
+from-outside a opens = (λ e. omega arith, λ o. refl)
+from-outside {n} a (outside closed not) = go (eqb n 1) refl
+  where
+    go : (b : Bool) → eqb n 1 ≡ b → (cond b (spot 1 a 0) (flat n) .phase ≡ unfit → ⊥)
+        × (isOpen (cond b (spot 1 a 0) (flat n) .phase) ≡ true → cond b (spot 1 a 0) (flat n) .target ≡ a)
+    go true e = (λ z. omega arith, λ o. refl)
+    go false e = (eqb-false n unfit not, λ o. absurd (true≢false (sym o ∙ closed)))
+
+from-inside : (x : Spot) (p c : ℕ) → isOpen (behindTarget x p c .phase) ≡ true → behindTarget x p c .target ≡ x .target
+unfolding behindTarget
+from-inside x p c = go (eqb p 4) (judge.accepts (x .judged))
+  where
+    go : (b d : Bool) → isOpen (cond b (cond d (flat 4) (spot unfit (x .target) 0)) (spot p (x .target) (judge.step (x .judged) c)) .phase) ≡ true
+        → cond b (cond d (flat 4) (spot unfit (x .target) 0)) (spot p (x .target) (judge.step (x .judged) c)) .target ≡ x .target
+    go true true o = absurd (false≢true o)
+    go true false o = absurd (false≢true o)
+    go false d o = refl
+
+refused-inside : (x : Spot) (p c : ℕ) → behindTarget x p c .phase ≡ unfit → behindTarget x p c .target ≡ x .target
+unfolding behindTarget
+refused-inside x p c = go (eqb p 4) (judge.accepts (x .judged))
+  where
+    go : (b d : Bool) → cond b (cond d (flat 4) (spot unfit (x .target) 0)) (spot p (x .target) (judge.step (x .judged) c)) .phase ≡ unfit
+        → cond b (cond d (flat 4) (spot unfit (x .target) 0)) (spot p (x .target) (judge.step (x .judged) c)) .target ≡ x .target
+    go true true e = absurd (omega arith)
+    go true false e = refl
+    go false d e = refl
+
+-- ---- a part
+
+-- the target of the spot y, which is open, began before the part or at some place of it up to i
+abbrev pub Since : ℕ → Spot → Spot → ℕ → Type 0
+Since base x y i = ((y .target ≡ x .target) × (isOpen (x .phase) ≡ true)) ⊎ ((j : ℕ) × (y .target ≡ base + j) × (j ≤ i))
+
+module _ {extra : Extra} {s : List ℕ} {base : ℕ} {x : Spot} where
+  pub leads-since : {y : Spot} {i : ℕ} → Leads extra s base x 0 y i → isOpen (y .phase) ≡ true → Since base x y i
+  unfolding onward
+  leads-since here o = inl (refl, o)
+  leads-since (further {y = y} {z = z} {i = i} l h e live) o = go (isOpen (y .phase)) refl (λ w. leads-since {y = y} {i = i} l w) e
+    where
+      go : (b : Bool) → isOpen (y .phase) ≡ b → (isOpen (y .phase) ≡ true → Since base x y i)
+          → cond b (behindTarget y (stepIn extra (y .phase) (getD s i 0)) (getD s i 0))
+          (cond (eqb (stepIn extra (y .phase) (getD s i 0)) 1) (spot 1 (base + suc i) 0) (flat (stepIn extra (y .phase) (getD s i 0)))) ≡ z
+          → Since base x z (suc i)
+      go true q more e =
+          let t : z .target ≡ y .target =
+          subst (λ (w : Spot). isOpen (w .phase) ≡ true → w .target ≡ y .target) e
+          (from-inside y (stepIn extra (y .phase) (getD s i 0)) (getD s i 0)) o
+          in
+          later t (more q)
+        where
+          later : z .target ≡ y .target → Since base x y i → Since base x z (suc i)
+          later t (inl (w, o)) = inl (t ∙ w, o)
+          later t (inr (j, w, m)) = inr (j, t ∙ w, omega arith)
+      go false q more e =
+          inr (
+            suc i,
+            subst (λ (w : Spot). isOpen (w .phase) ≡ true → w .target ≡ base + suc i) e
+                (from-outside (base + suc i) (out-step extra (y .phase) (getD s i 0) q) .1) o,
+            omega arith,
+          )
+
+  -- and so it is of one that is refused
+  pub refused-since : {y : Spot} {i : ℕ} (c : ℕ) → Leads extra s base x 0 y i → onward extra y (base + suc i) c .phase ≡ unfit
+      → ((onward extra y (base + suc i) c .target ≡ x .target) × (isOpen (x .phase) ≡ true)) ⊎ ((j : ℕ) × (onward extra y (base + suc i) c .target ≡ base + j) × (j ≤ i))
+  unfolding onward
+  refused-since {y} {i} c l e = go (isOpen (y .phase)) refl e
+    where
+      go : (b : Bool) → isOpen (y .phase) ≡ b
+          → cond b (behindTarget y (stepIn extra (y .phase) c) c)
+          (cond (eqb (stepIn extra (y .phase) c) 1) (spot 1 (base + suc i) 0) (flat (stepIn extra (y .phase) c))) .phase ≡ unfit
+          → ((cond b (behindTarget y (stepIn extra (y .phase) c) c)
+          (cond (eqb (stepIn extra (y .phase) c) 1) (spot 1 (base + suc i) 0) (flat (stepIn extra (y .phase) c))) .target ≡ x .target)
+          × (isOpen (x .phase) ≡ true))
+          ⊎ ((j : ℕ)
+          × (cond b (behindTarget y (stepIn extra (y .phase) c) c)
+          (cond (eqb (stepIn extra (y .phase) c) 1) (spot 1 (base + suc i) 0) (flat (stepIn extra (y .phase) c))) .target ≡ base + j) × (j ≤ i))
+      go false q e = absurd (from-outside (base + suc i) (out-step extra (y .phase) c q) .0 e)
+      go true q e = moved (leads-since l q)
+        where
+          t : behindTarget y (stepIn extra (y .phase) c) c .target ≡ y .target
+          t = refused-inside y (stepIn extra (y .phase) c) c e
+
+          moved : Since base x y i
+              → ((behindTarget y (stepIn extra (y .phase) c) c .target ≡ x .target) × (isOpen (x .phase) ≡ true))
+              ⊎ ((j : ℕ) × (behindTarget y (stepIn extra (y .phase) c) c .target ≡ base + j) × (j ≤ i))
+          moved (inl (w, o)) = inl (t ∙ w, o)
+          moved (inr (j, w, m)) = inr (j, t ∙ w, m)
