@@ -1,8 +1,9 @@
 //! A derivation of a text, found between the sets of places.
 
 use crate::grammar::{Label, Rule};
+use crate::places::Places;
 use crate::record::Span;
-use crate::sets::{after, before, Places};
+use crate::sets::{after, before};
 
 /// A labelled part of a derivation, with the labelled parts within it in order.
 #[derive(Clone, Debug, PartialEq, Eq)]
@@ -19,7 +20,7 @@ pub struct Node {
 /// to a place that the steps before it reach from the span's start.
 pub fn derivation(rule: &Rule, text: &[u8], span: Span) -> Vec<Node> {
     let text = &text[..span.end];
-    let start = Places::from([span.start]);
+    let start = Places::one(span.start);
     match rule {
         Rule::One(_) => vec![],
         Rule::Seq(parts) => {
@@ -38,7 +39,7 @@ pub fn derivation(rule: &Rule, text: &[u8], span: Span) -> Vec<Node> {
         }
         Rule::Either(parts) => parts
             .iter()
-            .find(|part| after(part, text, &start).contains(&span.end))
+            .find(|part| after(part, text, &start).contains(span.end))
             .map(|part| derivation(part, text, span))
             .expect("one of the parts derives the span"),
         Rule::Any(part) => {
@@ -62,10 +63,10 @@ pub fn derivation(rule: &Rule, text: &[u8], span: Span) -> Vec<Node> {
 
 /// A span that the part derives, from one of the places reached up to the end.
 fn last_step(part: &Rule, text: &[u8], reached: &Places, end: usize) -> Span {
-    let starts = before(part, text, &Places::from([end]));
-    let start = *starts
-        .intersection(reached)
-        .next()
+    let starts = before(part, text, &Places::one(end));
+    let start = starts
+        .iter()
+        .find(|&start| reached.contains(start))
         .expect("the part derives some span up to the end");
     Span { start, end }
 }

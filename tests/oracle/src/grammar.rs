@@ -58,6 +58,14 @@ pub fn field(edition: Edition) -> &'static Rule {
     }
 }
 
+/// What stands before a target, with its `<`.
+pub fn before_target(edition: Edition) -> &'static Rule {
+    match edition {
+        Edition::Rfc8288 => &rfc8288::BEFORE_TARGET,
+        Edition::Rfc5988 => &rfc5988::BEFORE_TARGET,
+    }
+}
+
 /// The rules that have a value in them, over what may stand there in an edition.
 macro_rules! edition {
     ($edition:ident: $($value:expr),+) => {
@@ -69,6 +77,13 @@ macro_rules! edition {
 
             /// RFC 9110 section 5.6.1: `[ element ] *( OWS "," OWS [ element ] )`.
             static LIST: Rule = Seq(&[&PLACE, &Any(&Seq(&[&BLANKS, &COMMA, &BLANKS, &PLACE]))]);
+
+            /// The field up to a place that is a link, and into it.
+            pub static BEFORE_TARGET: Rule = Seq(&[
+                &BLANKS,
+                &Any(&Seq(&[&PLACE, &BLANKS, &COMMA, &BLANKS])),
+                &LESS,
+            ]);
 
             /// A place of the list: empty or one link.
             static PLACE: Rule = Either(&[&LINK, &NOTHING]);
@@ -118,7 +133,7 @@ pub static QUOTED: Rule = Any(&Either(&[
     &Seq(&[&BACKSLASH, &One(octet::escaped)]),
 ]));
 
-/// Target, without its angle brackets.
+/// Target, without its angle brackets, by its octets alone.
 pub static TARGET: Rule = Any(&Either(&[
     &One(octet::target),
     &Seq(&[&PERCENT, &HEX, &HEX]),
@@ -127,6 +142,7 @@ pub static TARGET: Rule = Any(&Either(&[
 #[cfg(test)]
 mod tests {
     use super::*;
+    use crate::references::URI_REFERENCE;
 
     /// The length of a shortest text that the rule derives, if it derives any;
     /// on the way, every part under `Any` is checked to need an octet.
@@ -153,9 +169,13 @@ mod tests {
             assert_eq!(shortest(link), Some(2));
             assert_eq!(shortest(parameter), Some(1));
         }
+        for before_target in [&rfc8288::BEFORE_TARGET, &rfc5988::BEFORE_TARGET] {
+            assert_eq!(shortest(before_target), Some(1));
+        }
         assert_eq!(shortest(&TOKEN), Some(1));
         assert_eq!(shortest(&FURTHER), Some(1));
         assert_eq!(shortest(&QUOTED), Some(0));
         assert_eq!(shortest(&TARGET), Some(0));
+        assert_eq!(shortest(&URI_REFERENCE), Some(0));
     }
 }

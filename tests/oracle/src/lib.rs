@@ -4,9 +4,10 @@
 //! way: the grammar is a value (`grammar`), what it derives is asked by sets
 //! of places (`sets`), the malformed place by the cuts that can still be
 //! completed (`prefix`), and the records come from a derivation found so
-//! (`derivation`, `reading`). A header in parts is judged as the octets that
-//! came so far (`feeding`). All else follows the rules' definitions word by
-//! word. Clarity comes before speed.
+//! (`derivation`, `reading`). Targets are judged in the same way, by RFC 3986's
+//! own rules (`references`, `targets`). A header in parts is judged as the
+//! octets that came so far (`feeding`). All else follows the rules' definitions
+//! word by word. Clarity comes before speed.
 //!
 //! What is asked of headers and tables begins with the number of an edition:
 //! 0 is RFC 8288's, 1 RFC 5988's.
@@ -28,13 +29,17 @@ mod meaning;
 pub mod number;
 mod octet;
 mod output;
+mod places;
 mod prefix;
 mod read;
 mod reading;
 mod record;
+mod references;
 mod search;
 mod sets;
 mod table;
+mod targets;
+mod tree;
 mod value;
 mod vectors;
 mod write;
@@ -49,6 +54,8 @@ pub use read::{read, ReadAnswer};
 pub use record::PARAM_SLOTS;
 pub use search::search;
 pub use table::good;
+pub use targets::is_reference;
+pub use tree::Tree;
 pub use value::value;
 pub use vectors::vectors;
 pub use write::write;

@@ -34,3 +34,13 @@ pub fn target(octet: u8) -> bool {
 pub fn hex(octet: u8) -> bool {
     octet.is_ascii_hexdigit()
 }
+
+/// An octet that stands for itself everywhere in a reference.
+pub fn unreserved(octet: u8) -> bool {
+    octet.is_ascii_alphanumeric() || b"-._~".contains(&octet)
+}
+
+/// An octet that parts what stands within a part of a reference.
+pub fn sub_delim(octet: u8) -> bool {
+    b"!$&'()*+,;=".contains(&octet)
+}

@@ -2,12 +2,17 @@
 
 use crate::edition::Edition;
 use crate::grammar::{field, Rule};
-use crate::sets::{after, Places};
+use crate::places::Places;
+use crate::sets::after;
+use crate::targets::first_wrong;
 
-/// How many octets stand in the longest prefix of the header that begins some
-/// header that is derivable in the edition.
+/// Where the first target starts that is closed and is no reference. If there
+/// is none: how many octets stand in the longest prefix of the header that
+/// begins some header of the edition's grammar, whatever the targets are.
 pub fn place(edition: Edition, header: &[u8]) -> usize {
-    last_cut(field(edition), header, &Places::from([0])).unwrap_or(0)
+    first_wrong(edition, header)
+        .or_else(|| last_cut(field(edition), header, &Places::one(0)))
+        .unwrap_or(0)
 }
 
 /// A cut `k` can be completed from start `i` if the octets from `i` up to `k`
@@ -21,13 +26,13 @@ fn last_cut(rule: &Rule, text: &[u8], starts: &Places) -> Option<usize> {
     match rule {
         Rule::One(class) => starts
             .iter()
-            .map(|&start| match text.get(start) {
+            .map(|start| match text.get(start) {
                 Some(&octet) if class(octet) => start + 1,
                 _ => start,
             })
             .max(),
         Rule::Seq(parts) => {
-            let mut cut = starts.last().copied();
+            let mut cut = starts.last();
             let mut places = starts.clone();
             for part in *parts {
                 cut = cut.max(last_cut(part, text, &places));

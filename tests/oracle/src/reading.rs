@@ -7,15 +7,19 @@ use crate::grammar::{field, Label};
 use crate::kept::kept;
 use crate::record::{Form, Link, Param, Span};
 use crate::sets::derives;
+use crate::targets::is_reference;
 
 /// The links of the header with their kept parameters; none if the edition's
-/// grammar doesn't derive the header.
+/// grammar doesn't derive the header, or a target is no reference.
 pub fn reading(edition: Edition, header: &[u8]) -> Option<Vec<Link>> {
     let rule = field(edition);
-    derives(rule, header).then(|| {
-        let field = derivation(rule, header, Span::whole(header));
-        links(header, &field)
-    })
+    if !derives(rule, header) {
+        return None;
+    }
+    let field = derivation(rule, header, Span::whole(header));
+    let links = links(header, &field);
+    let right = |link: &Link| is_reference(link.target.of(header));
+    links.iter().all(right).then_some(links)
 }
 
 /// The links that the derivation of a field gives.

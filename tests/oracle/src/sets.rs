@@ -5,25 +5,36 @@
 //! through that relation from starts to ends, [`before`] from ends to starts.
 
 use crate::grammar::Rule;
-use std::collections::BTreeSet;
+use crate::places::Places;
 
-pub type Places = BTreeSet<usize>;
+/// Places with octets between them: of one text, or of several that begin
+/// alike.
+pub trait Text {
+    /// The places that an octet of the class leads to from a place.
+    fn behind(&self, place: usize, class: fn(u8) -> bool) -> impl Iterator<Item = usize>;
+}
+
+impl Text for [u8] {
+    fn behind(&self, place: usize, class: fn(u8) -> bool) -> impl Iterator<Item = usize> {
+        let octet = self.get(place).filter(|&&octet| class(octet));
+        octet.map(|_| place + 1).into_iter()
+    }
+}
 
 /// The ends of all that the rule derives from one of the starts.
-pub fn after(rule: &Rule, text: &[u8], starts: &Places) -> Places {
+pub fn after<T: Text + ?Sized>(rule: &Rule, text: &T, starts: &Places) -> Places {
+    if starts.is_empty() {
+        return Places::default();
+    }
     match rule {
-        Rule::One(class) => starts
-            .iter()
-            .filter(|&&start| text.get(start).is_some_and(|&octet| class(octet)))
-            .map(|start| start + 1)
-            .collect(),
+        Rule::One(class) => {
+            let ends = starts.iter().flat_map(|start| text.behind(start, *class));
+            Places::of(ends.collect())
+        }
         Rule::Seq(parts) => parts
             .iter()
             .fold(starts.clone(), |places, part| after(part, text, &places)),
-        Rule::Either(parts) => parts
-            .iter()
-            .flat_map(|part| after(part, text, starts))
-            .collect(),
+        Rule::Either(parts) => all(parts.iter().map(|part| after(part, text, starts))),
         Rule::Any(part) => closure(starts, |places| after(part, text, places)),
         Rule::Labelled(_, part) => after(part, text, starts),
     }
@@ -31,27 +42,33 @@ pub fn after(rule: &Rule, text: &[u8], starts: &Places) -> Places {
 
 /// The starts of all that the rule derives up to one of the ends.
 pub fn before(rule: &Rule, text: &[u8], ends: &Places) -> Places {
+    if ends.is_empty() {
+        return Places::default();
+    }
     match rule {
-        Rule::One(class) => ends
-            .iter()
-            .filter_map(|end| end.checked_sub(1))
-            .filter(|&start| class(text[start]))
-            .collect(),
+        Rule::One(class) => {
+            let starts = ends.iter().filter_map(|end| end.checked_sub(1));
+            Places::of(starts.filter(|&start| class(text[start])).collect())
+        }
         Rule::Seq(parts) => parts
             .iter()
             .rfold(ends.clone(), |places, part| before(part, text, &places)),
-        Rule::Either(parts) => parts
-            .iter()
-            .flat_map(|part| before(part, text, ends))
-            .collect(),
+        Rule::Either(parts) => all(parts.iter().map(|part| before(part, text, ends))),
         Rule::Any(part) => closure(ends, |places| before(part, text, places)),
         Rule::Labelled(_, part) => before(part, text, ends),
     }
 }
 
+/// The places of all the sets.
+fn all(sets: impl Iterator<Item = Places>) -> Places {
+    let mut all = Places::default();
+    sets.for_each(|places| all.add(&places));
+    all
+}
+
 /// Whether the rule derives the whole text.
 pub fn derives(rule: &Rule, text: &[u8]) -> bool {
-    after(rule, text, &Places::from([0])).contains(&text.len())
+    after(rule, text, &Places::one(0)).contains(text.len())
 }
 
 /// The places given and all that steps lead to from them.
@@ -59,8 +76,8 @@ fn closure(places: &Places, step: impl Fn(&Places) -> Places) -> Places {
     let mut all = places.clone();
     let mut fresh = places.clone();
     while !fresh.is_empty() {
-        fresh = step(&fresh).difference(&all).copied().collect();
-        all.extend(&fresh);
+        fresh = step(&fresh).without(&all);
+        all.add(&fresh);
     }
     all
 }
@@ -73,13 +90,13 @@ mod tests {
 
     #[test]
     fn both_directions_tell_the_same_relation() {
-        let text = br#" <a%2f>;x = "\"," ; y;z=/<c>,, <b> "#;
+        let text: &[u8] = br#" <a%2f>;x = "\"," ; y;z=/<c>,, <b> "#;
         for field in [Edition::Rfc8288, Edition::Rfc5988].map(field) {
             for start in 0..=text.len() {
                 for end in 0..=text.len() {
                     assert_eq!(
-                        after(field, text, &Places::from([start])).contains(&end),
-                        before(field, text, &Places::from([end])).contains(&start),
+                        after(field, text, &Places::one(start)).contains(end),
+                        before(field, text, &Places::one(end)).contains(start),
                     );
                 }
             }

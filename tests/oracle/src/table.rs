@@ -2,10 +2,11 @@
 
 use crate::code::name_code;
 use crate::edition::Edition;
-use crate::grammar::{Rule, FURTHER, QUOTED, TARGET, TOKEN};
+use crate::grammar::{Rule, FURTHER, QUOTED, TOKEN};
 use crate::kept::repeats;
 use crate::number::{BAD_TABLE, LIMIT, TOO_LONG};
 use crate::record::{links_of_slots, Form, Link, Param, Span};
+use crate::references::URI_REFERENCE;
 use crate::sets::derives;
 
 /// Whether the text with its tables and counts is good in the edition.
@@ -68,7 +69,7 @@ pub fn asked_links(
 }
 
 fn good_link(edition: Edition, text: &[u8], link: &Link) -> bool {
-    obeys(text, link.target, &TARGET)
+    obeys(text, link.target, &URI_REFERENCE)
         && link
             .params
             .iter()

@@ -1,9 +1,9 @@
 //! Laws, run over many small headers.
 
 use crate::editions::FURTHER;
-use crate::{read_amply, read_in, Tables, EDITIONS};
+use crate::{read_amply, read_in, refusal, Tables, EDITIONS};
 use oracle::number::MALFORMED;
-use oracle::{Feeding, ReadAnswer};
+use oracle::{is_reference, Feeding, ReadAnswer};
 
 /// A fixed run of numbers that look random.
 struct Numbers(u64);
@@ -19,10 +19,17 @@ impl Numbers {
 
     /// A header put together from pieces that often fit.
     fn header(&mut self) -> Vec<u8> {
-        const PIECES: [&str; 22] = [
+        const PIECES: [&str; 29] = [
             "<a>",
             "<>",
             "<b,c;%41>",
+            "<a://[::1]>",
+            "<1:a>",
+            "<b#c#%41>",
+            "<",
+            "[",
+            "1:%41",
+            ">",
             ";",
             " ;\t",
             ";rel=x",
@@ -61,8 +68,36 @@ impl Numbers {
     }
 }
 
+/// Where the target ends that starts in that place, if it has a `>` and is no
+/// reference.
+fn wrong_target(header: &[u8], start: usize) -> Option<usize> {
+    let before = header[..start].last();
+    let length = header[start..].iter().position(|&octet| octet == b'>')?;
+    let target = &header[start..start + length];
+    // In a query all octets of targets but three may stand, and triples.
+    let plain: Vec<u8> = target
+        .iter()
+        .map(|&octet| if b"#[]".contains(&octet) { b'a' } else { octet })
+        .collect();
+    let is_target = is_reference(&[b"?", &plain[..]].concat());
+    let wrong = before == Some(&b'<') && is_target && !is_reference(target);
+    wrong.then_some(start + length)
+}
+
+/// Whether the grammar derives the header, whatever its targets are: those that
+/// are wrong are put right first.
 fn derivable(edition: usize, header: &[u8]) -> bool {
-    oracle::read(edition, header, &mut [], &mut []).number != MALFORMED
+    let mut header = header.to_vec();
+    loop {
+        let answer = oracle::read(edition, &header, &mut [], &mut []);
+        if answer.number != MALFORMED {
+            return true;
+        }
+        let Some(end) = wrong_target(&header, answer.place) else {
+            return false;
+        };
+        header[answer.place..end].fill(b'a');
+    }
 }
 
 /// Whether the prefix begins a derivable header. What is open at its end can
@@ -80,12 +115,12 @@ fn begins_a_header(edition: usize, prefix: &[u8]) -> bool {
 }
 
 #[test]
-fn the_place_is_the_longest_prefix_that_begins_a_header() {
+fn the_place_is_a_wrong_targets_or_the_longest_prefix_that_begins_a_header() {
     // What begins a header has only prefixes that do, so one octet more is
     // enough to look at.
     let mut numbers = Numbers(1);
-    let mut malformed = 0;
-    while malformed < 2000 {
+    let (mut malformed, mut wrong) = (0, 0);
+    while malformed < 1000 || wrong < 200 {
         let edition = numbers.below(2);
         let mut header = numbers.header();
         if numbers.below(3) == 0 {
@@ -96,9 +131,14 @@ fn the_place_is_the_longest_prefix_that_begins_a_header() {
         if answer.number == 0 {
             continue;
         }
-        malformed += 1;
         let place = answer.place;
         assert_eq!(answer.number, MALFORMED);
+        if let Some(end) = wrong_target(&header, place) {
+            wrong += 1;
+            assert!(begins_a_header(edition, &header[..=end]), "{header:?}");
+            continue;
+        }
+        malformed += 1;
         assert!(begins_a_header(edition, &header[..place]), "{header:?}");
         let longer = header.get(..place + 1);
         let begins = longer.is_some_and(|longer| begins_a_header(edition, longer));
@@ -107,18 +147,45 @@ fn the_place_is_the_longest_prefix_that_begins_a_header() {
 }
 
 #[test]
-fn a_feed_is_done_exactly_if_its_octets_begin_a_header() {
+fn a_wrong_target_gives_the_place_and_a_right_one_changes_nothing() {
+    const TARGETS: [&str; 10] = [
+        "b:c", "1:c", "b#c", "##c", "?[c", "%41", ":%41", "//[::]", "//[:]", "//b:c",
+    ];
+    let mut numbers = Numbers(7);
+    let mut wrong = 0;
+    while wrong < 1000 {
+        let edition = numbers.below(2);
+        let (mut header, _, _) = numbers.accepted(edition);
+        let target = TARGETS[numbers.below(TARGETS.len())].as_bytes();
+        header.extend(b",<");
+        let start = header.len();
+        let behind = [b">", &numbers.header()[..]].concat();
+        let plain = [&header[..], &b"a".repeat(target.len()), &behind].concat();
+        let whole = [&header[..], target, &behind].concat();
+        let (mut expected, _) = read_amply(edition, &plain);
+        if !is_reference(target) {
+            wrong += 1;
+            expected = refusal(MALFORMED, start);
+        }
+        assert_eq!(read_amply(edition, &whole).0, expected, "{whole:?}");
+    }
+}
+
+#[test]
+fn a_feed_is_done_exactly_if_its_octets_begin_a_header_and_no_target_is_wrong() {
     let mut numbers = Numbers(4);
     let mut buffer = vec![0; 8192];
-    for _ in 0..2000 {
+    for _ in 0..1000 {
         let edition = numbers.below(2);
         let header = numbers.header();
         let cut = numbers.below(header.len() + 1);
         let mut feeding = Feeding::start(edition);
         for (part, fed) in [(&header[..cut], cut), (&header[cut..], header.len())] {
+            let so_far = &header[..fed];
             let (number, _) = feeding.feed(part, &mut buffer);
-            let begins = begins_a_header(edition, &header[..fed]);
-            assert_eq!(number, if begins { 0 } else { MALFORMED }, "{header:?}");
+            let place = read_amply(edition, so_far).0.place;
+            let done = begins_a_header(edition, so_far) && wrong_target(so_far, place).is_none();
+            assert_eq!(number, if done { 0 } else { MALFORMED }, "{header:?}");
         }
     }
 }

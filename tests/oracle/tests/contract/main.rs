@@ -2,15 +2,18 @@
 
 mod codes;
 mod comparisons;
+mod components;
 mod editions;
 mod feeds;
 mod laws;
 mod limits;
 mod program;
 mod questions;
+mod references;
 mod rfc8288;
 mod rows;
 mod tables;
+mod targets;
 mod writing;
 
 use oracle::{ReadAnswer, PARAM_SLOTS};

@@ -226,7 +226,7 @@ fn values_obey_the_grammar_for_their_form() {
 #[test]
 fn targets_obey_the_grammar() {
     for octet in 0..=255u8 {
-        let excluded = b" \"%<>\\^`{|}".contains(&octet);
+        let excluded = b" \"%:<>[\\]^`{|}".contains(&octet);
         let good = Tables::new(&[octet], &[[0, 1, 0, 0]], &[]).good();
         assert_eq!(good, octet.is_ascii_graphic() && !excluded);
     }
