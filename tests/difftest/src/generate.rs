@@ -4,5 +4,7 @@ pub mod case;
 pub mod edition;
 pub mod header;
 pub mod octets;
+pub mod reference;
 pub mod spans;
 pub mod table;
+pub mod targets;

@@ -9,6 +9,7 @@ mod made;
 mod names;
 mod octets;
 pub mod program;
+mod references;
 mod rooms;
 mod short;
 mod stored;
@@ -29,6 +30,7 @@ pub fn fixed(run: &mut Run, deep: bool) -> Compared<()> {
     octets::compare(run)?;
     stored::compare(run)?;
     edges::compare(run)?;
+    references::fixed(run, deep)?;
     names::fixed(run)?;
     texts::fixed(run)?;
     feeds::fixed(run, deep)
@@ -43,6 +45,7 @@ pub fn seeded(run: &mut Run) -> Compared<()> {
     made::compare(run)?;
     bad::compare(run)?;
     wild::compare(run)?;
+    references::seeded(run)?;
     names::seeded(run)?;
     texts::seeded(run)?;
     feeds::seeded(run)

@@ -16,6 +16,7 @@ mod numbers;
 mod reached;
 mod run;
 mod shown;
+mod state;
 mod tables;
 mod view;
 

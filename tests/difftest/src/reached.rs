@@ -1,6 +1,6 @@
 //! Which numbers each entry answered in each edition, and how often; what became of headers in the
-//! older edition, and the forms and codes of records; the codes of names that a link has again; and
-//! how far comparisons went.
+//! older edition, and of targets by themselves; the forms and codes of records; the codes of names
+//! that a link has again; and how far comparisons went.
 
 use crate::generate::edition::{NEWER, OLDER};
 use capstanbar::ffi::CompareAnswer;
@@ -20,6 +20,7 @@ pub enum Entry {
     Write,
     Form,
     Code,
+    Target,
     Editions,
     NameCode,
     Again,
@@ -65,7 +66,7 @@ type Allowed = &'static [RangeInclusive<usize>];
 const ALL: &[In] = &[In::Newer, In::Older, In::Unknown];
 const ANY: &[In] = &[In::Any];
 
-const ENTRIES: [(Entry, &str, &[In], Allowed); 17] = [
+const ENTRIES: [(Entry, &str, &[In], Allowed); 18] = [
     (Entry::Read, "read", ALL, &[0..=4]),
     (Entry::Feed, "feed", ALL, &[0..=2, 7..=7]),
     (Entry::Finish, "finish", ALL, &[0..=4, 7..=7]),
@@ -85,6 +86,12 @@ const ENTRIES: [(Entry, &str, &[In], Allowed); 17] = [
         "codes of records",
         &[In::Newer, In::Older],
         &[0..=LAST_CODE],
+    ),
+    (
+        Entry::Target,
+        "targets read, no references, of wrong octets",
+        ANY,
+        &[0..=2],
     ),
     (
         Entry::Editions,

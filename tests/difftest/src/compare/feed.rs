@@ -84,16 +84,26 @@ impl Fed {
 
     /// The state that should follow on the one before; what isn't said of it is as it was answered.
     fn next(&self, before: FeedingState, expected: Expected) -> FeedingState {
-        let mut next = self.state;
-        next.edition = before.edition;
-        next.total = self.total.min(LIMIT + 1);
+        let total = self.total.min(LIMIT + 1);
         match expected.number {
-            0 => next.place = self.total,
-            1 => next.phase = before.phase,
-            2 => (next.phase, next.place) = (before.phase, expected.place),
-            _ => next = before,
+            0 => FeedingState {
+                edition: before.edition,
+                total,
+                place: total,
+                ..self.state
+            },
+            1 => FeedingState {
+                total,
+                place: self.state.place,
+                ..before
+            },
+            2 => FeedingState {
+                total,
+                place: expected.place,
+                ..before
+            },
+            _ => before,
         }
-        next
     }
 
     /// Finishes in that many link and parameter slots, twice; that many of the buffer's octets are lent.

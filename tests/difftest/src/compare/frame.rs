@@ -1,5 +1,5 @@
 //! What feeding and finishing answer whatever numbers the state has and octets the buffer. A finish is settled; of a feed it is free
-//! whether a part that nothing settles is faulty, where, and which phase follows.
+//! whether a part that nothing settles is faulty, where, and what the state then says of how far the reading went.
 
 use super::equal::{equal, equal_rooms};
 use super::read::of_library;
@@ -82,10 +82,10 @@ fn judged(
     let right = match number {
         0 => {
             let moved = FeedingState {
-                phase: next.phase,
+                edition: state.edition,
                 total,
                 place: total,
-                ..state
+                ..next
             };
             place == 0 && next == moved
         }
@@ -95,7 +95,7 @@ fn judged(
                 place,
                 ..state
             };
-            (state.total..total).contains(&place) && next == moved
+            place < total && next == moved
         }
         _ => false,
     };
@@ -105,7 +105,7 @@ fn judged(
     Err(Difference {
         asked: asked(),
         library: format!("{answer:?}"),
-        expected: format!("0 with {total} octets, or 2 with a place in the part"),
+        expected: format!("0 with {total} octets, or 2 with a place before them all"),
     })
 }
 

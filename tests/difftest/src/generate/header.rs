@@ -3,9 +3,9 @@
 use super::case::cased;
 use super::edition::{self, OLDER};
 use super::octets::{
-    code, is_escapable, is_further, is_plain, is_target, is_token, ALWAYS, FURTHER, HEX, LETTERS,
-    ONCE, UNKNOWN,
+    code, is_escapable, is_further, is_plain, is_token, ALWAYS, FURTHER, LETTERS, ONCE, UNKNOWN,
 };
+use super::reference::reference;
 use crate::numbers::Numbers;
 use oracle::PARAM_SLOTS;
 
@@ -97,7 +97,8 @@ impl Maker<'_> {
     fn link(&mut self) {
         self.put(b'<');
         let start = self.here();
-        self.target();
+        let target = reference(self.numbers, self.sizes.octets);
+        self.made.header.extend(target);
         let end = self.here();
         self.put(b'>');
         let first = self.made.params.len();
@@ -110,18 +111,6 @@ impl Maker<'_> {
         }
         let count = self.made.params.len() - first;
         self.made.links.push([start, end, first, count]);
-    }
-
-    fn target(&mut self) {
-        for _ in 0..self.numbers.small(self.sizes.octets) {
-            if self.numbers.once_in(6) {
-                self.put(b'%');
-                self.one_of(|octet| HEX.contains(&octet));
-                self.one_of(|octet| HEX.contains(&octet));
-            } else {
-                self.one_of(is_target);
-            }
-        }
     }
 
     /// The names are those of the link's parameters before this one.

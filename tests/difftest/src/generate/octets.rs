@@ -4,6 +4,8 @@ pub const LETTERS: &[u8] = b"abcdefghijklmnopqrstuvwxyzABCDEFGHIJKLMNOPQRSTUVWXY
 const TOKEN_MARKS: &[u8] = b"!#$%&'*+-.^_`|~";
 pub const FURTHER: &[u8] = b"()<>@:/[]?={}";
 const TARGET_MARKS: &[u8] = b"-._~:/?#[]@!$&'()*+,;=";
+/// Those that stand for themselves in each part of a reference.
+const FREE_MARKS: &[u8] = b"-._~!$&'()*+,;=";
 pub const HEX: &[u8] = b"0123456789abcdefABCDEF";
 
 pub fn is_token(octet: u8) -> bool {
@@ -17,6 +19,11 @@ pub fn is_further(octet: u8) -> bool {
 
 pub fn is_target(octet: u8) -> bool {
     octet.is_ascii_alphanumeric() || TARGET_MARKS.contains(&octet)
+}
+
+/// Whether each part of a reference may have it, but for what stands in brackets, schemes and ports.
+pub fn is_free(octet: u8) -> bool {
+    octet.is_ascii_alphanumeric() || FREE_MARKS.contains(&octet)
 }
 
 pub fn is_hex(octet: u8) -> bool {

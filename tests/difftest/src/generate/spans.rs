@@ -1,6 +1,6 @@
 //! Spans of a text that the grammar derives, found where the text has them.
 
-use super::octets::{is_escapable, is_further, is_hex, is_plain, is_target, is_token};
+use super::octets::{is_escapable, is_free, is_further, is_hex, is_plain, is_token};
 use crate::numbers::Numbers;
 
 /// A token from some place on, at most so long, if the text has one there or behind.
@@ -33,13 +33,17 @@ pub fn quoted(numbers: &mut Numbers, text: &[u8], most: usize) -> [usize; 2] {
     })
 }
 
-/// What may be a target, from some place on.
-pub fn target(numbers: &mut Numbers, text: &[u8], most: usize) -> [usize; 2] {
-    grown(numbers, text, most, |rest| match *rest {
+/// A path without colons from some place on, which is a reference: it doesn't begin with two slashes.
+pub fn path(numbers: &mut Numbers, text: &[u8], most: usize) -> [usize; 2] {
+    let [start, end] = grown(numbers, text, most, |rest| match *rest {
         [b'%', high, low, ..] if is_hex(high) && is_hex(low) => 3,
-        [octet, ..] if is_target(octet) => 1,
+        [octet, ..] if is_free(octet) || matches!(octet, b'@' | b'/') => 1,
         _ => 0,
-    })
+    });
+    match text[start..end] {
+        [b'/', b'/', ..] => [start, start + 1],
+        _ => [start, end],
+    }
 }
 
 /// A span grown by steps as far as one goes, or as many as wished.

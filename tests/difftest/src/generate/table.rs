@@ -17,11 +17,18 @@ pub struct Shape<'s> {
 
 /// A good table of that shape over a made text; most links have a `rel`.
 pub fn table(numbers: &mut Numbers, shape: Shape) -> Tables {
-    let (text, words) = soup(numbers);
+    let Soup {
+        text,
+        words,
+        targets,
+    } = soup(numbers);
     let mut links = vec![];
     let mut params = vec![];
     for &count in shape.params {
-        let [start, end] = spans::target(numbers, &text, shape.most);
+        let [start, end] = match targets.is_empty() || numbers.once_in(2) {
+            true => spans::path(numbers, &text, shape.most),
+            false => numbers.of(&targets),
+        };
         links.push([start, end, params.len(), count]);
         let mut names: Vec<Vec<u8>> = vec![];
         for place in 0..count {
@@ -37,10 +44,17 @@ pub fn table(numbers: &mut Numbers, shape: Shape) -> Tables {
     Tables::new(shape.edition, text, &links, &params)
 }
 
-/// A text of all that tables are made of, and where names stand in it, a `rel` first.
-fn soup(numbers: &mut Numbers) -> (Vec<u8>, Vec<[usize; 2]>) {
+/// A text of all that tables are made of, and where in it names stand, a `rel` first, and references.
+struct Soup {
+    text: Vec<u8>,
+    words: Vec<[usize; 2]>,
+    targets: Vec<[usize; 2]>,
+}
+
+fn soup(numbers: &mut Numbers) -> Soup {
     let mut text = vec![];
     let mut words = vec![];
+    let mut targets = vec![];
     let mut put_word = |text: &mut Vec<u8>, word: Vec<u8>| {
         words.push([text.len(), text.len() + word.len()]);
         text.extend(word);
@@ -53,11 +67,18 @@ fn soup(numbers: &mut Numbers) -> (Vec<u8>, Vec<[usize; 2]>) {
             _ => numbers.of(ONCE),
         };
         let word = cased(numbers, word);
-        text.extend(header::derive_any(numbers, header::SHORT).header);
+        let derived = header::derive_any(numbers, header::SHORT);
+        let spans = derived.links.iter().map(|&[start, end, ..]| [start, end]);
+        targets.extend(spans.map(|span| span.map(|place| text.len() + place)));
+        text.extend(derived.header);
         put_word(&mut text, word);
         text.push(numbers.octet());
     }
-    (text, words)
+    Soup {
+        text,
+        words,
+        targets,
+    }
 }
 
 /// A name that isn't kept once if the link has it already.

@@ -8,6 +8,7 @@ mod further;
 mod none;
 mod parts;
 mod spans;
+mod targets;
 
 use crate::ask::ask_in_each;
 use crate::compare::{Asked, Compared};
@@ -29,6 +30,7 @@ pub fn compare(run: &mut Run) -> Compared<()> {
         counts::WAYS,
         spans::WAYS,
         parts::WAYS,
+        targets::WAYS,
         further::WAYS,
         codes::WAYS,
     ] {

@@ -39,7 +39,7 @@ pub fn damaged(numbers: &mut Numbers, stored: &[&[u8]]) -> Vec<u8> {
 }
 
 fn damage(numbers: &mut Numbers, header: &mut Vec<u8>) {
-    const MARKS: &[u8] = b"<>;,=\"\\ \t%a/";
+    const MARKS: &[u8] = b"<>;,=\"\\ \t%a/:?#[]@1";
     let end = header.len();
     if end == 0 {
         return header.push(numbers.of(MARKS));

@@ -11,6 +11,8 @@ mod strange;
 
 use crate::compare::Compared;
 use crate::run::Run;
+pub use beginnings::Beginnings;
+pub use both::Both;
 
 /// Buffers that are too small to gather a header.
 const SMALL: [usize; 3] = [0, 1, 8191];

@@ -60,7 +60,7 @@ fn spoilt(numbers: &mut Numbers, edition: usize, malformed: &[&[u8]]) -> Vec<u8>
     }
     let mut header = derive(numbers, edition, SHORT).header;
     let at = numbers.below(header.len() + 1);
-    header.insert(at, numbers.of(b"<>;=\"\\%"));
+    header.insert(at, numbers.of(b"<>;=\"\\%:#[]"));
     header
 }
 

@@ -10,10 +10,11 @@ use crate::run::Run;
 use crate::tables::Tables;
 use oracle::PARAM_SLOTS;
 
-const HEADERS: [&[u8]; 3] = [
+const HEADERS: [&[u8]; 4] = [
     br#" <a%4f> ; x = "\"y" ; z=t ,, <b>;rel=c "#,
     br#"<>;title*="\a";rel="b \c",<d>;anchor=e"#,
     b"<>;x=/:;y= =b<c> ;rel=d@,<>",
+    b"<a+1://b:c@[::1.2.3.4]:5/d:e?f#g>,<h>",
 ];
 
 pub fn compare(run: &mut Run) -> Compared<()> {

@@ -4,6 +4,7 @@ use super::edit::{append, set_name, set_no_value, set_target, set_value};
 use super::Way;
 use crate::generate::case::cased;
 use crate::generate::octets::known;
+use crate::generate::targets::RIGHT;
 use crate::numbers::Numbers;
 use crate::tables::Tables;
 
@@ -52,9 +53,16 @@ pub const WAYS: &[(&str, Way)] = &[
             set_value(tables, param, span, 1 + param % 2);
         }
     }),
-    ("a target of every mark", |numbers, tables| {
-        let span = append(tables, b"-._~:/?#[]@!$&'()*+,;=%0f%Fa");
-        set_target(tables, numbers.below(4), span);
+    ("targets that are nearly none", |numbers, tables| {
+        for link in 0..4 {
+            let span = append(tables, numbers.of(RIGHT));
+            set_target(tables, link, span);
+        }
+    }),
+    ("values that would be no targets", |_, tables| {
+        names(tables, [b"anchor", b"rel", b"x"]);
+        let span = append(tables, b"1:[##");
+        (3..6).for_each(|param| set_value(tables, param, span, 2));
     }),
     ("a token of every mark", |numbers, tables| {
         let span = append(tables, b"!#$%&'*+-.^_`|~09azAZ");

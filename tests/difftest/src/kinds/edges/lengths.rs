@@ -19,8 +19,14 @@ pub fn compare(run: &mut Run) -> Compared<()> {
 
 /// Headers of each length, derivable and not.
 fn headers(run: &mut Run) -> Compared<()> {
-    const MAKES: [(&[u8], &[u8], &[u8]); 12] = [
+    const MAKES: [(&[u8], &[u8], &[u8]); 18] = [
         (b"<", b"a", b">"),
+        (b"<", b"/", b">"),
+        (b"<a:", b":", b">"),
+        (b"<1:", b"a", b">"),
+        (b"<", b"a", b"[>"),
+        (b"<//", b":", b"@b>"),
+        (b"<//", b":", b"@[>"),
         (b"", b" ", b""),
         (b"", b",", b""),
         (b"<a>;rel=\"", b"a ", b"\""),
@@ -59,8 +65,13 @@ fn texts(run: &mut Run) -> Compared<()> {
         ask_in_each(run, &good)?;
         let mut bad = good.clone();
         bad.links[1] += 1;
-        run.case();
-        ask_in_each(run, &bad)?;
+        let mut wrong = good.clone();
+        wrong.text[length - 2] = b'[';
+        wrong.params[2] = length - 1;
+        for tables in [bad, wrong] {
+            run.case();
+            ask_in_each(run, &tables)?;
+        }
     }
     Ok(())
 }

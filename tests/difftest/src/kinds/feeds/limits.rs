@@ -10,8 +10,11 @@ use oracle::number::LIMIT;
 const ENDS: [usize; 10] = [0, 1, 5, 8190, 8191, 8192, 8193, 8194, 65_536, 65_541];
 
 /// How headers begin, and what then follows on and on.
-const MAKES: [(&[u8], u8); 7] = [
+const MAKES: [(&[u8], u8); 10] = [
     (b"<", b'a'),
+    (b"<1:", b'a'),
+    (b"<a>,<//[", b':'),
+    (b"<1:a>", b'a'),
     (b"<>;t=\"", b' '),
     (b"", b','),
     (b"", b'x'),
@@ -35,11 +38,15 @@ fn compare_in(run: &mut Run, edition: usize) -> Compared<()> {
         header.resize(ENDS[9], octet);
         every(run, &mut fed, Beginnings::of(edition, header))?;
     }
-    // Malformed at the last octet but one, and at the last.
+    // Malformed at the last octet but one, and at the last; and a target that is closed there and is
+    // no reference.
     for place in [8190, 8191] {
-        let mut header = vec![b' '; ENDS[9]];
-        header[place] = b'"';
-        every(run, &mut fed, Beginnings::of(edition, header))?;
+        for (start, more, end) in [(b' ', b' ', b'"'), (b'<', b':', b'>')] {
+            let mut header = vec![more; ENDS[9]];
+            header[0] = start;
+            header[place] = end;
+            every(run, &mut fed, Beginnings::of(edition, header))?;
+        }
     }
     Ok(())
 }

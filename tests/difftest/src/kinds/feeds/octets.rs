@@ -8,7 +8,7 @@ use crate::kinds::short::DELIMITERS;
 use crate::run::Run;
 use oracle::number::LIMIT;
 
-const BEFORE: [&[u8]; 24] = [
+const BEFORE: [&[u8]; 38] = [
     b"",
     b" ",
     b",",
@@ -16,6 +16,20 @@ const BEFORE: [&[u8]; 24] = [
     b"<a",
     b"<%",
     b"<%4",
+    b"<1",
+    b"<1:",
+    b"<a:",
+    b"<a:/",
+    b"<//",
+    b"<//a:",
+    b"<//a@",
+    b"<//[",
+    b"<//[:",
+    b"<//[::1",
+    b"<//[::]",
+    b"<//[v1.",
+    b"<?",
+    b"<#",
     b"<>",
     b"<> ",
     b"<>;",

@@ -7,6 +7,7 @@ use crate::generate::header::{derive_any, SHORT};
 use crate::lent::Lent;
 use crate::numbers::Numbers;
 use crate::run::Run;
+use crate::state::{self, NUMBERS};
 use capstanbar::ffi::{self, FeedingState};
 use oracle::number::LIMIT;
 
@@ -25,6 +26,9 @@ const WRAPS: usize = HUGE - 8191;
 /// Some more than there are phases.
 const PHASES: usize = 16;
 
+/// Some more than what says how far the judging of a target went.
+const JUDGED: usize = 700;
+
 const PLACES: [usize; 14] = [
     0, 1, 2, 5, 100, 8190, 8191, 8192, 8193, 8194, 65_536, HALF, WRAPS, HUGE,
 ];
@@ -36,10 +40,10 @@ pub fn compare(run: &mut Run) -> Compared<()> {
         for total in PLACES {
             for place in PLACES {
                 let state = FeedingState {
-                    edition: edition::any(&mut run.numbers),
                     phase,
                     total,
                     place,
+                    ..any_state(&mut run.numbers)
                 };
                 fill(&mut run.numbers, &mut buffer);
                 follow(run, state, &mut buffer)?;
@@ -70,17 +74,43 @@ fn follow(run: &mut Run, mut state: FeedingState, buffer: &mut Lent<u8>) -> Comp
     Ok(())
 }
 
+/// A state of any numbers.
+fn any_state(numbers: &mut Numbers) -> FeedingState {
+    let start = ffi::start(edition::any(numbers));
+    (0..NUMBERS).fold(start, |state, place| {
+        let number = any_number(numbers);
+        FeedingState {
+            edition: state.edition,
+            ..state::with(state, place, number)
+        }
+    })
+}
+
+fn any_number(numbers: &mut Numbers) -> usize {
+    match numbers.below(3) {
+        0 => numbers.below(PHASES),
+        1 => numbers.below(JUDGED),
+        _ => numbers.of(&PLACES),
+    }
+}
+
 /// A state that a feed gave, mostly with another number in it.
 fn some_state(run: &mut Run, buffer: &mut Lent<u8>) -> Compared<FeedingState> {
     let header = derive_any(&mut run.numbers, SHORT).header;
     let cut = run.numbers.below(header.len() + 1);
     let start = ffi::start(edition::any(&mut run.numbers));
     let mut state = feed_any(run, start, &header[..cut], buffer, LIMIT)?;
-    match run.numbers.below(5) {
+    match run.numbers.below(6) {
         0 => state.edition = edition::any(&mut run.numbers),
         1 => state.phase = run.numbers.below(PHASES),
         2 => state.total = run.numbers.of(&PLACES),
         3 => state.place = run.numbers.of(&PLACES),
+        4 => {
+            let edition = state.edition;
+            let number = any_number(&mut run.numbers);
+            state = state::with(state, run.numbers.below(NUMBERS), number);
+            state.edition = edition;
+        }
         _ => {}
     }
     Ok(state)
@@ -106,7 +136,7 @@ fn some_part(numbers: &mut Numbers, total: usize) -> Vec<u8> {
         _ => numbers.small(20),
     };
     match numbers.below(3) {
-        0 => vec![numbers.of(b"<>;,=\"\\ a%/"); length],
+        0 => vec![numbers.of(b"<>;,=\"\\ a%/:[]#"); length],
         1 => vec![numbers.octet(); length],
         _ => derive_any(numbers, SHORT).header,
     }
