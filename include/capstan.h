@@ -24,6 +24,10 @@
  * room is the count of slots divided by CAPSTAN_LINK_SLOTS or by CAPSTAN_PARAM_SLOTS, rounded down. No header has more than 2,731 links,
  * nor more than 4,095 parameters.
  *
+ * Targets. What stands between `<` and `>` is a URI-reference by the grammar of RFC 3986, IP literals included, as
+ * crates/references/specs/AppendixA.antt has it; in `<>` it is the empty one. `<1:a>` and `<a#b#c>` are malformed: `1:a` has a colon in
+ * its first segment and no scheme before it, `a#b#c` has a `#` in its fragment. An `anchor`, any other value and the base are not judged.
+ *
  * Editions. In CAPSTAN_RFC8288 a bare value is a token; in CAPSTAN_RFC5988 it may also hold any of `( ) / : < = > ? @ [ ] { }`, and has
  * form 3 if it does. Nothing else differs: what the first edition accepts, the second reads to the same records. Functions over headers
  * and tables take the edition as their first argument, a feeding at its start; any other number is refused with CAPSTAN_UNKNOWN_EDITION,
@@ -36,10 +40,11 @@
  * The functions over a table take its edition, text, slots and counts as capstan_read or capstan_finish was given and answered them.
  * They check all of it: tables of any other making are used if they are good, and refused with CAPSTAN_BAD_TABLE if they are not. A
  * table is good if the counts fit the rooms; the first link's parameters begin at number 0, each later link's where the former's end,
- * and the last ends at the count; every span lies in the text, start at most end; targets, names and values are what the edition's
- * grammar derives for them in the form recorded, 0, 1 or 2, in CAPSTAN_RFC5988 also 3; every code is that of its name; and no link has
- * two parameters of one of the names of codes 1 to 6, whose list stands below. Spans may overlap or stand in any order. A table that is
- * good in CAPSTAN_RFC8288 is good in CAPSTAN_RFC5988 too, and is answered for alike; one with a form 3 is good in CAPSTAN_RFC5988 alone.
+ * and the last ends at the count; every span lies in the text, start at most end; every target is a URI-reference;
+ * names and values are what the edition's grammar derives for them in the form recorded, 0, 1 or 2, in CAPSTAN_RFC5988 also 3; every
+ * code is that of its name; and no link has two parameters of one of the names of codes 1 to 6, whose list stands below. Spans may
+ * overlap or stand in any order. A table that is good in CAPSTAN_RFC8288 is good in CAPSTAN_RFC5988 too, and is answered for alike; one
+ * with a form 3 is good in CAPSTAN_RFC5988 alone.
  */
 #ifndef CAPSTAN_H
 #define CAPSTAN_H
@@ -67,7 +72,7 @@ enum {
 enum {
     CAPSTAN_DONE = 0,
     CAPSTAN_TOO_LONG = 1,        /* a header, all feeds, a table's text or a written form: over CAPSTAN_LIMIT octets */
-    CAPSTAN_MALFORMED = 2,       /* the grammar doesn't derive the header; at a feed, none that begins so */
+    CAPSTAN_MALFORMED = 2,       /* the header isn't well formed; at a feed, what was fed is wrong, whatever follows */
     CAPSTAN_NO_LINK_ROOM = 3,    /* more links than room */
     CAPSTAN_NO_PARAM_ROOM = 4,   /* more kept parameters than room */
     CAPSTAN_BAD_TABLE = 5,       /* the table is not good */
@@ -116,15 +121,17 @@ typedef struct { size_t number, length; } capstan_length_answer;
 typedef struct { size_t same, pairs; } capstan_compare_answer; /* same is 1 or 0 */
 
 /* What a feeding remembers between calls. Its numbers are the library's: a caller hands it back as it got it. */
-typedef struct { size_t edition, phase, total, place; } capstan_feeding;
+typedef struct { size_t edition, phase, total, place, target, judged; } capstan_feeding;
 typedef struct { size_t number, place; capstan_feeding next; } capstan_feed_answer;
 
 /*
  * Reads a header, which is the field value without the field's name and colon, into the tables `links` and `params`.
  *
  * Answers the counts of links and of kept parameters: of names of codes 1 to 6 the first of a link, of others each. A malformed header
- * is refused with its place: how many octets stand in its longest prefix that begins some well formed header. One that is cut short
- * has its own length as place.
+ * is refused with its place. If some target that a `>` closes is no URI-reference, and nothing up to and with that `>` is wrong
+ * otherwise, it is the octet behind the `<` of the first such target. Else it is how many octets stand in the longest prefix that begins
+ * some header, where any octets of URI-references, with two hex digits behind each `%`, pass for a target; one that is cut short has its
+ * own length. So `<1:a>` has place 1, `<a>,<1:a>;` 5, and `<1:a`, `<1:a b>` and `<a%4>` have 4.
  * Numbers, in the order in which they are tested: CAPSTAN_UNKNOWN_EDITION, CAPSTAN_TOO_LONG, CAPSTAN_MALFORMED, CAPSTAN_NO_LINK_ROOM,
  * CAPSTAN_NO_PARAM_ROOM.
  */
@@ -147,11 +154,13 @@ capstan_feeding capstan_start(size_t edition);
  * Takes one part more. `next` is the state for the call behind this one, also after a refusal. What counts are the octets of all feeds
  * so far, those of feeds refused with CAPSTAN_TOO_LONG or CAPSTAN_MALFORMED too.
  *
- * CAPSTAN_DONE: some well formed header begins with them, and they stand at the buffer's start; the octets behind them are as they
- * were. CAPSTAN_TOO_LONG: they are over CAPSTAN_LIMIT; later feeds, also empty ones, and the finish answer so too. CAPSTAN_MALFORMED:
- * no well formed header begins with them; the place is the one that capstan_read would answer, and stays. CAPSTAN_UNKNOWN_EDITION: the
- * feeding was started with no known one. CAPSTAN_NO_OUTPUT_ROOM: the buffer is under CAPSTAN_LIMIT octets. With these two the part
- * doesn't count, and `next` is `state`. A refusal leaves the buffer as it was.
+ * CAPSTAN_DONE: nothing is wrong with them yet, and they stand at the buffer's start; the octets behind them are as they were.
+ * CAPSTAN_TOO_LONG: they are over CAPSTAN_LIMIT; later feeds, also empty ones, and the finish answer so too. CAPSTAN_MALFORMED: no well
+ * formed header begins with them; the place is the one that capstan_read would answer, and stays. A target that is no URI-reference is
+ * told once its `>` is fed, and its place may lie in an earlier part; before that the answer is CAPSTAN_DONE, though no well formed
+ * header may begin so, as with `<1:a`. CAPSTAN_UNKNOWN_EDITION: the feeding was started with no known one. CAPSTAN_NO_OUTPUT_ROOM: the
+ * buffer is under CAPSTAN_LIMIT octets. With these two the part doesn't count, and `next` is `state`. A refusal leaves the buffer as it
+ * was.
  * Numbers, in order: CAPSTAN_UNKNOWN_EDITION, CAPSTAN_NO_OUTPUT_ROOM, CAPSTAN_TOO_LONG, CAPSTAN_MALFORMED.
  */
 capstan_feed_answer capstan_feed(capstan_feeding state, const uint8_t *part, size_t part_len, uint8_t *buffer, size_t buffer_len);

@@ -8,7 +8,7 @@
 
 static_assert(sizeof(capstan_read_answer) == 4 * sizeof(std::size_t), "four numbers");
 static_assert(sizeof(capstan_context_answer) == 4 * sizeof(std::size_t), "four numbers");
-static_assert(sizeof(capstan_feed_answer) == 6 * sizeof(std::size_t), "two numbers and a state of four");
+static_assert(sizeof(capstan_feed_answer) == 8 * sizeof(std::size_t), "two numbers and a state of six");
 
 static const std::uint8_t *octets(const std::string &s)
 {

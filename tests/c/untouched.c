@@ -304,6 +304,17 @@ static void test_malformed(void)
     finish(CAPSTAN_LIMIT, LINK_SLOTS, PARAM_SLOTS, CAPSTAN_TOO_LONG, 0, "finish: 8,193 octets with a fault");
 }
 
+static void test_unfit(void)
+{
+    start();
+    feed(octets("<a>, <1:"), 8, CAPSTAN_LIMIT, CAPSTAN_DONE, 0, "feed: a target that is no reference, open");
+    finish(CAPSTAN_LIMIT, LINK_SLOTS, PARAM_SLOTS, CAPSTAN_MALFORMED, 8, "finish: cut short in a target");
+    feed(octets("b>;x"), 4, CAPSTAN_LIMIT - 1, CAPSTAN_NO_OUTPUT_ROOM, 0, "feed: a target closed, and no room");
+    feed(octets("b>;x"), 4, CAPSTAN_LIMIT, CAPSTAN_MALFORMED, 6, "feed: a target that is no reference, closed");
+    feed(octets(";;"), 2, CAPSTAN_LIMIT, CAPSTAN_MALFORMED, 6, "feed: a fault behind a target that is no reference");
+    finish(CAPSTAN_LIMIT, LINK_SLOTS, PARAM_SLOTS, CAPSTAN_MALFORMED, 6, "finish: a target that is no reference");
+}
+
 static void test_too_long(void)
 {
     start();
@@ -332,10 +343,10 @@ static void expect_wild(size_t number, size_t last, size_t buffer_len, const cha
 }
 
 /* With a state of any numbers the answer is a number of the entry, a refusal changes nothing, and what isn't lent stays as it was. */
-static void wild_feed(size_t buffer_len)
+static void wild_feed(const uint8_t *part, size_t len, size_t buffer_len)
 {
     memcpy(guarded_before, guarded, GUARDED);
-    capstan_feed_answer f = capstan_feed(state, octets(",<c>;z"), 6, buffer, buffer_len);
+    capstan_feed_answer f = capstan_feed(state, part, len, buffer, buffer_len);
     expect_wild(f.number, CAPSTAN_MALFORMED, buffer_len, "feed: a wild state");
     if (f.number == CAPSTAN_NO_OUTPUT_ROOM || f.number == CAPSTAN_UNKNOWN_EDITION)
         expect(memcmp(&f.next, &state, sizeof state) == 0, "feed: a wild state, and no room or edition");
@@ -358,6 +369,25 @@ static void wild_finish(size_t buffer_len)
     expect(memcmp(guarded, guarded_before, GUARDED) == 0, "finish: a wild state");
 }
 
+/* Of the open target, too: where it starts, and how far it is judged. */
+static void test_wild_targets(void)
+{
+    static const size_t wild[] = { 0, 1, 7, CAPSTAN_LIMIT, CAPSTAN_LIMIT + 1, SIZE_MAX - 1, SIZE_MAX };
+    enum { WILD = sizeof wild / sizeof *wild, JUDGED = 600, PHASES = 4 };
+
+    for (size_t i = 0; i < (JUDGED + WILD) * WILD * PHASES; i++) {
+        const size_t judged = i / (WILD * PHASES);
+        start();
+        memcpy(buffer, header, HEADER_LEN);
+        state.phase = i % PHASES;
+        state.target = wild[i / PHASES % WILD];
+        state.judged = judged < JUDGED ? judged : wild[judged - JUDGED];
+        wild_finish(CAPSTAN_LIMIT);
+        wild_feed(octets("aa>;z"), 5, CAPSTAN_LIMIT - 1);
+        wild_feed(octets("aa>;z"), 5, CAPSTAN_LIMIT);
+    }
+}
+
 static void test_wild_states(void)
 {
     static const size_t wild[] = { 0, 1, 7, CAPSTAN_LIMIT - 1, CAPSTAN_LIMIT, CAPSTAN_LIMIT + 1, SIZE_MAX - 1, SIZE_MAX };
@@ -372,8 +402,8 @@ static void test_wild_states(void)
         state.place = wild[i % WILD];
         wild_finish(CAPSTAN_LIMIT);
         wild_finish(CAPSTAN_LIMIT - 1);
-        wild_feed(CAPSTAN_LIMIT - 1);
-        wild_feed(CAPSTAN_LIMIT);
+        wild_feed(octets(",<c>;z"), 6, CAPSTAN_LIMIT - 1);
+        wild_feed(octets(",<c>;z"), 6, CAPSTAN_LIMIT);
     }
 }
 
@@ -386,8 +416,10 @@ static void test_edition(void)
     test_write();
     test_room();
     test_malformed();
+    test_unfit();
     test_too_long();
     test_wild_states();
+    test_wild_targets();
 }
 
 /* Whatever else would be done or refused; the table is one of a known edition. */
@@ -433,6 +465,7 @@ static void test_unknown_edition(size_t unknown)
     finish(CAPSTAN_LIMIT, LINK_SLOTS, PARAM_SLOTS, CAPSTAN_UNKNOWN_EDITION, 0, "finish: an unknown edition");
     finish(0, 0, 0, CAPSTAN_UNKNOWN_EDITION, 0, "finish: an unknown edition, and no buffer");
     test_wild_states();
+    test_wild_targets();
 }
 
 int main(void)
