@@ -5,7 +5,8 @@ use core::fmt;
 /// A header that arrives in parts: made, fed each part, and finished.
 ///
 /// However the header is cut, the finish answers what [`read_in`](crate::read_in) answers of the
-/// whole, and a feed is refused as soon as no well formed header begins with what was fed.
+/// whole, and a feed is refused as soon as something is wrong with what was fed. A target that is no
+/// reference is told once its `>` is fed.
 ///
 /// ```
 /// use capstanbar::{Feeding, Refusal, LIMIT, LINK_SLOTS, PARAM_SLOTS};
@@ -88,7 +89,8 @@ impl<'a> Feeding<'a> {
     ///
     /// Refused in this order: too long, malformed. What counts are the octets of all parts so far,
     /// refused ones too; so a malformed beginning stays malformed at its place, and once there are
-    /// too many octets there always are. A header that is only cut short isn't refused here.
+    /// too many octets there always are. A header that is only cut short isn't refused here, nor is an
+    /// open target, however wrong it is; once its `>` is fed, its place may lie in an earlier part.
     ///
     /// ```
     /// use capstanbar::{Feeding, Refusal, LIMIT};
@@ -101,6 +103,10 @@ impl<'a> Feeding<'a> {
     /// assert_eq!(feeding.feed(b", <d>"), Err(Refusal::Malformed { place: 10 }));
     /// assert_eq!(feeding.feed(&[b','; LIMIT]), Err(Refusal::TooLong));
     /// assert_eq!(feeding.feed(b""), Err(Refusal::TooLong));
+    ///
+    /// let mut feeding = Feeding::new(&mut buffer);
+    /// assert_eq!(feeding.feed(b"<1:a"), Ok(()));
+    /// assert_eq!(feeding.feed(b"/b>"), Err(Refusal::Malformed { place: 1 }));
     /// ```
     pub fn feed(&mut self, part: &[u8]) -> Result<(), Refusal> {
         let answer = ffi::feed(self.state, part, self.buffer);

@@ -89,7 +89,8 @@
 //! ```
 //!
 //! What can't be done is refused by a [`Refusal`]; a malformed header with the place where it went
-//! wrong. A refusal leaves everything lent as it was.
+//! wrong, or where a target starts that is no URI-reference (RFC 3986). A refusal leaves everything
+//! lent as it was.
 //!
 //! ```
 //! use capstanbar::{read, Refusal, LINK_SLOTS, PARAM_SLOTS};
@@ -98,6 +99,9 @@
 //! let refusal = read(b"<a>;rel=next;", &mut links, &mut params).unwrap_err();
 //! assert_eq!(refusal, Refusal::Malformed { place: 13 });
 //! assert_eq!(refusal.to_string(), "malformed at octet 13");
+//!
+//! let no_scheme = read(b"<1:a>;rel=next", &mut links, &mut params).unwrap_err();
+//! assert_eq!(no_scheme, Refusal::Malformed { place: 1 });
 //! ```
 
 #![no_std]

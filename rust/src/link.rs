@@ -34,7 +34,7 @@ impl<'a> Link<'a> {
         self.number
     }
 
-    /// The octets of its target.
+    /// The octets of its target: a URI-reference (RFC 3986), which may have none.
     ///
     /// ```
     /// # let (mut links, mut params) = ([0; 8], [0; 64]);

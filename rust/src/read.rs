@@ -34,7 +34,10 @@ impl Counts {
 /// those used, and all slots on a refusal, keep what they held. The value is read by RFC 8288;
 /// [`read_in`] also reads by the older RFC 5988.
 ///
-/// Refused in this order: too long, malformed, no link room, no parameter room.
+/// Refused in this order: too long, malformed, no link room, no parameter room. A header is malformed
+/// also where a target is no URI-reference by the grammar of RFC 3986, IP literals included; `<>` is
+/// right. No other part is judged so, not even an `anchor`. Which place a malformed header has,
+/// [`Refusal::Malformed`] says.
 ///
 /// [`Table::read`](crate::Table::read) does the same and hands back a view of what was read. To keep
 /// slots and counts apart from a view, read with this and make the view by
@@ -52,6 +55,9 @@ impl Counts {
 ///
 /// assert_eq!(read(b"<a>,<b>", &mut links, &mut params), Err(Refusal::NoLinkRoom));
 /// assert_eq!(links, [1, 2, 0, 1, 7, 7]);
+///
+/// let no_scheme = read(b"<a>,<1:a>", &mut links, &mut params);
+/// assert_eq!(no_scheme, Err(Refusal::Malformed { place: 5 }));
 /// # Ok::<(), Refusal>(())
 /// ```
 pub fn read(header: &[u8], links: &mut [usize], params: &mut [usize]) -> Result<Counts, Refusal> {

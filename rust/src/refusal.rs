@@ -8,6 +8,7 @@ use core::fmt;
 ///
 /// assert_eq!(read(b"<a>", &mut [], &mut []), Err(Refusal::NoLinkRoom));
 /// assert_eq!(read(b"<a%4g>", &mut [], &mut []), Err(Refusal::Malformed { place: 4 }));
+/// assert_eq!(read(b"<1:a>", &mut [], &mut []), Err(Refusal::Malformed { place: 1 }));
 /// ```
 #[derive(Clone, Copy, Debug, PartialEq, Eq, Hash)]
 #[non_exhaustive]
@@ -15,12 +16,15 @@ pub enum Refusal {
     /// The header, all that was fed, the text or the written form has over
     /// [`LIMIT`](crate::LIMIT) octets.
     TooLong,
-    /// The grammar doesn't derive the header; at a feed, it derives none that begins with what was
-    /// fed.
+    /// The header isn't well formed; at a feed, what was fed is wrong, whatever follows.
     Malformed {
-        /// How many octets stand in the longest part of the header, from its beginning, that some
-        /// right header begins with. A header cut short has its own length here; a feed doesn't
-        /// refuse it.
+        /// The octet behind the `<` of the first target that is closed by its `>` and is no
+        /// URI-reference (RFC 3986), if nothing up to and with that `>` is wrong otherwise.
+        ///
+        /// Else it is how many octets stand in the longest part of the header, from its beginning,
+        /// that some header begins with, where any octets of URI-references, with two hex digits
+        /// behind each `%`, pass for a target. A header cut short has its own length here; a feed
+        /// doesn't refuse it.
         place: usize,
     },
     /// The header has more links than room was lent for.

@@ -80,7 +80,7 @@ impl<'a> Table<'a> {
     /// Takes records made elsewhere, which may hold any numbers: a table that isn't good is refused.
     /// It is judged by RFC 8288; [`new_in`](Table::new_in) also judges by the older RFC 5988.
     ///
-    /// Refused in this order: too long, bad table.
+    /// Refused in this order: too long, bad table. In a good one every target is a URI-reference.
     ///
     /// ```
     /// use capstanbar::{Counts, Refusal, Table};
@@ -94,6 +94,9 @@ impl<'a> Table<'a> {
     ///
     /// let code_of_rev = Table::new(b"rel/a", &[3, 5, 0, 1], &[0, 3, 4, 5, 1, 8], counts);
     /// assert_eq!(code_of_rev.unwrap_err(), Refusal::BadTable);
+    ///
+    /// let no_reference = Table::new(b"rel:a", &[3, 5, 0, 1], &[0, 3, 4, 5, 1, 1], counts);
+    /// assert_eq!(no_reference.unwrap_err(), Refusal::BadTable);
     /// # Ok::<(), Refusal>(())
     /// ```
     pub fn new(

@@ -2,7 +2,7 @@
 
 use capstanbar::{read_in, Counts, Edition, Feeding, Refusal, LIMIT, LINK_SLOTS, PARAM_SLOTS};
 
-const HEADERS: [&[u8]; 11] = [
+const HEADERS: [&[u8]; 12] = [
     b"",
     b" , </packs/6>; rel=prev,,",
     br#"<a>; title="12, \"3"; rel*, <b>"#,
@@ -14,6 +14,7 @@ const HEADERS: [&[u8]; 11] = [
     b"<a>;t=\"\x7f\", <b>\n",
     b"<a>;rel=http://b/;x = <c>==, <d>",
     b"<a>;x==/ <b>",
+    b"<//[::1.2.3]>, <1:a>;x",
 ];
 
 type Slots = ([usize; 2 * LINK_SLOTS], [usize; 4 * PARAM_SLOTS]);

@@ -28,7 +28,8 @@ pub struct ReadAnswer {
 /// ```
 /// use capstanbar::ffi::{start, FeedingState};
 ///
-/// assert_eq!(start(1), FeedingState { edition: 1, phase: 0, total: 0, place: 0 });
+/// let unfed = FeedingState { edition: 1, phase: 0, total: 0, place: 0, target: 0, judged: 0 };
+/// assert_eq!(start(1), unfed);
 /// ```
 #[repr(C)]
 #[derive(Clone, Copy, Debug, PartialEq, Eq)]
@@ -39,8 +40,12 @@ pub struct FeedingState {
     pub phase: usize,
     /// How many octets were fed, and one past the limit where they are over it.
     pub total: usize,
-    /// Within the limit, how many of them begin some well formed header.
+    /// Within the limit, how many of them have nothing wrong: all, or up to the place of the fault.
     pub place: usize,
+    /// Where they end in a target, where that starts.
+    pub target: usize,
+    /// And how far its judging as a reference has come.
+    pub judged: usize,
 }
 
 /// What a feed answers.
