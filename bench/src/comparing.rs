@@ -53,7 +53,8 @@ pub fn feeding(name: &str, header: &[u8], sizes: &[usize]) {
     }
 }
 
-/// The state and the buffer behind the parts, of which as many octets as the place says begin some well formed header.
+/// The state and the buffer behind the parts, of which as many octets as the place says begin some well formed header: none of the headers
+/// has a closed target that is no reference, whose place would lie before what tells it.
 fn fed<'a>(
     name: &str,
     parts: impl Iterator<Item = &'a [u8]>,

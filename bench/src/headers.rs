@@ -1,4 +1,5 @@
-//! The headers that are measured. Every link has a relation, so that each table can be written too.
+//! The headers that are measured. Every link has a relation, so that each table can be written too, and every target that is closed is a
+//! reference, so that builds that judge targets and builds that don't answer alike.
 
 /// A well-formed header and what is asked of its table.
 pub struct Sample {
@@ -34,6 +35,8 @@ pub fn samples() -> Vec<Sample> {
 pub fn to_read() -> Vec<(&'static str, Vec<Vec<u8>>)> {
     let alone = |sample: Sample| (sample.name, vec![sample.header]);
     let mut all: Vec<_> = samples().into_iter().map(alone).collect();
+    all.push(("one target of 80 octets", vec![one_target()]));
+    all.push(("one IP literal", vec![ip_literal()]));
     all.push(("malformed", vec![malformed()]));
     all.push(("paginated, 500 different in turn", different()));
     all
@@ -51,6 +54,18 @@ fn paginated(target: &str, last: u32) -> Vec<u8> {
         page(last, "last"),
     ];
     pages.join(", ").into_bytes()
+}
+
+/// A link without parameters, so that reading is mostly judging its target.
+fn one_target() -> Vec<u8> {
+    let target = "https://api.example.org/v2/catalogue/18/items?page=999&per_page=50&state=open&q=";
+    assert_eq!(target.len(), 80);
+    format!("<{target}>").into_bytes()
+}
+
+/// The same with an address in brackets, an IPv4 one at its end.
+fn ip_literal() -> Vec<u8> {
+    b"<https://[2001:db8:0:18::c0a8:192.0.2.33]:8443/packs/8?lang=de>".to_vec()
 }
 
 /// Near 8,192 octets, with 60 links of four parameters each.
