@@ -19,7 +19,7 @@ pub struct Feeding {
     pub judged: usize,
 }
 
-// The octets so far begin a header, they begin none and have this place, or why the feed is refused otherwise; and the next state.
+// Nothing is wrong with the octets so far, something is and they have this place, or why the feed is refused otherwise; and the next state.
 pub enum FeedAnswer {
     Begun(Feeding),
     Malformed(Place, Feeding),

@@ -16,19 +16,23 @@ use Rattle.outcomes.specs.Number.{limit, done, tooLong, malformedHeader, noOutp
 use Rattle.outcomes.specs.Feed as fed
 use Rattle.outcomes.specs.Feed.{counted, unstored, FeedIn}
 use Rattle.outcomes.specs.Feeding as any
-use Rattle.outcomes.specs.Feeding.{Feeding, Holds, over, stuck, begun, movedTo, goneOn, AnyFeed, FeedsIn}
+use Rattle.outcomes.specs.Feeding.{Feeding, Holds, over, stuck, begun, movedTo, goneOn, startIn, startOf, judgedOf, AnyFeed, FeedsIn}
 use Rattle.kinds.specs.declared.Place.{Place as PlaceOf}
 use Rattle.part_scan.specs.declared.PartScan.{PartScan}
 use Rattle.phases.specs.declared.spot.Spot.{Spot}
-use Rattle.phases.specs.Spots.{Leads, normal, isOpen, onward}
+use Rattle.phases.specs.Spots.{Leads, spot, normal, isOpen, onward}
+use Rattle.grammar.specs.Machine.{phaseOf, openAt}
 use Rattle.part_scan.specs.declared.PartScan.the-variants.{Through, Stuck, Unfit}
 use Rattle.part_scan.specs.Moved.{Halts, Refuses, PartScanned, through, stuck-at, unfit-at}
-use Rattle.part_scan.proofs.Starts.{refused-since}
+use Rattle.part_scan.proofs.Normals.{normal-is-normal}
+use Rattle.part_scan.proofs.Starts.{refused-since, start-within}
 use Rattle.feeding.specs.Taking.{Takes, heldSpot}
 use Rattle.grammar.proofs.Editions.{apart}
 use Rattle.grammar.proofs.Growing.{begun-front, before-end, still-stuck, place-before}
 use Rattle.feeding.proofs.SpotSteps.{spotIn}
-use Rattle.feeding.proofs.Phases.{spot-normal, normal-target}
+use Rattle.grammar.proofs.Closing.{state-end, starts-before}
+use Rattle.grammar.proofs.TargetsHeld.{OpenFrom}
+use Rattle.feeding.proofs.Phases.{spot-normal, normal-target, normal-start, normal-phase, start-inside}
 use Rattle.feeding.proofs.PartLed.{behind, part-spot, part-begun, part-place, part-refused}
 
 -- with a buffer that is large enough, the part counts
@@ -47,6 +51,16 @@ pub record Open (ed : Edition) (octets buffer : List ℕ) (st : Feeding) : Type 
 pub record Faulty (ed : Edition) (octets : List ℕ) (st : Feeding) : Type 0 where
   pub none : Begun (further ed) octets → ⊥
   pub place : Place (further ed) octets (st .place)
+
+-- the start of the target that is open behind some octets is no place behind them
+start-of : (extra : Extra) (u : List ℕ) → min (startOf (openAt (behind extra u))) (length u) ≡ startOf (openAt (behind extra u))
+start-of extra u =
+    let h =
+    start-inside (length u) (behind extra u)
+    (subst (OpenFrom (λ (a : ℕ). a ≤ length u)) (state-end extra u)
+    (starts-before extra u (length u) (length u) (omega arith) (omega arith)))
+    in
+    omega arith
 
 module _ {ed : Edition} {octets buffer : List ℕ} where
   -- the edition of a state
@@ -72,7 +86,16 @@ module _ {ed : Edition} {octets buffer : List ℕ} where
       → Open ed octets buffer st
   open-state n (over l) h k = absurd (omega arith)
   open-state n (stuck s m p) h k = absurd (omega (arith, before-end (apart ed) m p))
-  open-state n (begun s b t) h k = record { begins = b; gathered = t; at-spot = refl; total = refl; edition = refl }
+  open-state n (begun s b t) h k =
+      record {
+        begins = b;
+        gathered = t;
+        at-spot =
+            ap (λ (a : ℕ). spot (phaseOf (behind (further ed) octets)) a (judgedOf octets (openAt (behind (further ed) octets))))
+            (start-of (further ed) octets);
+        total = refl;
+        edition = refl;
+      }
 
   faulty-state : {st : Feeding} (n : ℕ) → Holds ed octets buffer st → st .total + n ≤ limit → st .place < st .total
       → Faulty ed octets st
@@ -92,10 +115,10 @@ module _ {extra : Extra} {part : List ℕ} {base : ℕ} {x : Spot} {r : PartScan
       go : {k : PlaceOf} → PartScanned extra part base x (Stuck k) → Halts extra part base x 0 (k .0)
       go (stuck-at h) = h
 
-  pub scan-unfit : {t : ℕ} → r ≡ Unfit t → Refuses extra part base x 0 t
+  pub scan-unfit : {t : PlaceOf} → r ≡ Unfit t → Refuses extra part base x 0 (t .0)
   scan-unfit e = go (subst (PartScanned extra part base x) e w)
     where
-      go : {t : ℕ} → PartScanned extra part base x (Unfit t) → Refuses extra part base x 0 t
+      go : {t : PlaceOf} → PartScanned extra part base x (Unfit t) → Refuses extra part base x 0 (t .0)
       go (unfit-at h) = h
 
   pub scan-through : {y : Spot} → r ≡ Through y → Leads extra part base x 0 y (length part)
@@ -150,7 +173,7 @@ module _ (ed : Edition) {st : Feeding} {part buffer : List ℕ} where
           record {
             answers =
                 λ octets h.
-                fed.begins-none large
+                fed.wrong-so-far large
                 (omega (arith, sum (st .total) octets part (total-is (length part) h short)))
                 (why octets h .0) (why octets h .1);
             holds =
@@ -236,16 +259,16 @@ module _ (ed : Edition) {st : Feeding} {part buffer : List ℕ} (t : Takes st pa
       (r .1, subst (Place (further ed) (octets ++ part)) (rw (o .total) at (x .start)) (r .0)))
     where
       -- before the part, or in it
-      where-it-began : ((onward (further ed) (x .last) (st .total + suc (x .place)) (getD part (x .place) 0) .target ≡ normal (heldSpot st) .target)
+      where-it-began : ((onward (further ed) (x .last) (st .total + suc (x .place)) (getD part (x .place) 0) .target .0 ≡ normal (heldSpot st) .target .0)
           × (isOpen (normal (heldSpot st) .phase) ≡ true))
           ⊎ ((j : ℕ)
-          × (onward (further ed) (x .last) (st .total + suc (x .place)) (getD part (x .place) 0) .target ≡ st .total + j)
+          × (onward (further ed) (x .last) (st .total + suc (x .place)) (getD part (x .place) 0) .target .0 ≡ st .total + j)
           × (j ≤ x .place))
           → AnyFeed st part buffer (unstored buffer malformedHeader k) (movedTo st (st .total + length part) k)
       where-it-began (inl (e, o)) =
-          let w : st .target ≡ k = sym (normal-target (heldSpot st) o) ∙ sym e ∙ x .start in
+          let w : startIn st ≡ k = sym (normal-target (heldSpot st) o) ∙ sym e ∙ x .start in
           subst (λ (n : ℕ). AnyFeed st part buffer (unstored buffer malformedHeader n) (movedTo st (st .total + length part) n)) w
-          (any.unfit (t .large) (t .short) (t .none-stuck))
+          (any.unfit (t .large) (t .short) (t .none-stuck) (normal-phase (heldSpot st) o) (omega (arith, x .inside)))
       where-it-began (inr (j, e, m)) =
           let w : st .total + j ≡ k = sym e ∙ x .start in
           subst (λ (n : ℕ). AnyFeed st part buffer (unstored buffer malformedHeader n) (movedTo st (st .total + length part) n)) w
@@ -254,15 +277,18 @@ module _ (ed : Edition) {st : Feeding} {part buffer : List ℕ} (t : Takes st pa
   -- the part leads on, and is stored
   pub goes-on : {y : Spot} → Leads (further ed) part (st .total) (normal (heldSpot st)) 0 y (length part)
       → FeedsIn st part buffer ed (record { number = done; place = 0; buffer = sets buffer (st .total) part })
-      (goneOn st (st .total + length part) (y .phase) (y .target) (y .judged))
+      (goneOn st (st .total + length part) (y .phase) (y .target .0) (y .judged))
   unfolding start
   goes-on {y} l =
       record {
         answers = λ octets h. told octets (found octets h);
         holds = λ octets h. rw (all-count octets part buffer (t .large)) (held octets (found octets h));
-        any = rw stored (any.stored (t .large) (t .short) (t .none-stuck));
+        any = rw stored (any.stored (t .large) (t .short) (t .none-stuck) within);
       }
     where
+      within : y .target .0 ≤ st .total + length part
+      within = start-within (normal-is-normal (heldSpot st)) (omega (arith, normal-start (heldSpot st))) l
+
       stored : sets buffer (st .total) part ≡ take (st .total) buffer ++ part ++ drop (st .total + length part) buffer
       stored = sets-eq part buffer (st .total) (omega (arith, t .large, t .short))
 
@@ -283,10 +309,10 @@ module _ (ed : Edition) {st : Feeding} {part buffer : List ℕ} (t : Takes st pa
           → FeedIn ed octets part buffer (record { number = done; place = 0; buffer = sets buffer (st .total) part })
       told octets o =
           rw (is-gathered octets o)
-          (fed.begins (t .large) (omega (arith, t .short, sum (st .total) octets part (o .total))) (begun-all octets o))
+          (fed.right-so-far (t .large) (omega (arith, t .short, sum (st .total) octets part (o .total))) (begun-all octets o))
 
       held : (octets : List ℕ) → Open ed octets buffer st
-          → Holds ed (octets ++ part) (sets buffer (st .total) part) (goneOn st (st .total + length part) (y .phase) (y .target) (y .judged))
+          → Holds ed (octets ++ part) (sets buffer (st .total) part) (goneOn st (st .total + length part) (y .phase) (y .target .0) (y .judged))
       held octets o =
           rw (
             o .edition,

@@ -153,11 +153,11 @@ module _ {extra : Extra} (apart : Admissible extra) (fed part : List ℕ) where
 
     -- it closes a target that is no reference
     led-refused : onward extra y (length fed + suc k) (getD part k 0) .phase ≡ unfit
-        → Place extra all (onward extra y (length fed + suc k) (getD part k 0) .target) × (Begun extra all → ⊥)
+        → Place extra all (onward extra y (length fed + suc k) (getD part k 0) .target .0) × (Begun extra all → ⊥)
     led-refused e = go what
       where
         go : Told extra (upTo k) (behind extra (upTo k)) (getD part k 0) ⊎ Refused extra (upTo k) (behind extra (upTo k)) (getD part k 0)
-            → Place extra all (onward extra y (length fed + suc k) (getD part k 0) .target) × (Begun extra all → ⊥)
+            → Place extra all (onward extra y (length fed + suc k) (getD part k 0) .target .0) × (Begun extra all → ⊥)
         go (inl t) =
             absurd
             (never-unfit (step extra (behind extra (upTo k)) (length (upTo k)) (getD part k 0))
@@ -176,7 +176,7 @@ module _ {extra : Extra} (apart : Admissible extra) (fed part : List ℕ) where
             false≢true
             (sym (r .refused) ∙ steps-exact .accepted (drop (r .start) (upTo k)) (subst IsReference (slice-here (r .start)) d))
             in (
-              subst (Place extra all) (sym (ap (λ (x : Spot). x .target) (same-onward ∙ r .spot-then)))
+              subst (Place extra all) (sym (ap (λ (x : Spot). x .target .0) (same-onward ∙ r .spot-then)))
                   (first-target extra apart shut bad (l .clean)),
               λ b. b .references (r .start) (length fed + k) (shut-faulty extra apart shut bad),
             )
@@ -231,5 +231,5 @@ module _ {extra : Extra} (apart : Admissible extra) (fed part : List ℕ) where
 
     pub part-refused : {y : Spot} {k : ℕ} → Leads extra part (length fed) x 0 y k → k < length part
         → onward extra y (length fed + suc k) (getD part k 0) .phase ≡ unfit
-        → Place extra all (onward extra y (length fed + suc k) (getD part k 0) .target) × (Begun extra all → ⊥)
+        → Place extra all (onward extra y (length fed + suc k) (getD part k 0) .target .0) × (Begun extra all → ⊥)
     part-refused l h q = led-refused (led l) h q

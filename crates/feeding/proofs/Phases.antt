@@ -1,10 +1,12 @@
 -- The phases by their numbers: dead is the one that is none, and no state has that of a target that is no reference.
-use Prim.Native.Nat.{ℕ}
+use Prim.Native.Nat.{ℕ, _≤_, _<_}
 use native.Mathlib.Omega.{arith}
 use mathlib.Core.Path.{_≡_, refl, sym, _∙_}
 use mathlib.Core.Bool.{Bool, true, false, cond, true≢false}
+use borrow.Author.Tests.{leb-true}
+use Rattle.octets.proofs.Octets.{both}
 use mathlib.Core.List.{List}
-use lib.Dec.{eqb}
+use lib.Dec.{eqb, leb}
 use Rattle.grammar.specs.Machine.{
   State,
   gap,
@@ -22,8 +24,11 @@ use Rattle.grammar.specs.Machine.{
   escape,
   dead,
   phaseOf,
+  openAt,
 }
 use Rattle.grammar.proofs.Prefix.{isDead}
+use Rattle.grammar.proofs.TargetsHeld.{OpenFrom}
+use Rattle.outcomes.specs.Feeding.{startOf, InTarget}
 use Rattle.phases.specs.Steps.{stuck}
 use Rattle.phases.specs.declared.spot.Spot.{Spot}
 use Rattle.phases.specs.Spots.{unfit, flat, isOpen, normal}
@@ -80,10 +85,45 @@ spot-normal fed (escape o n k v) = refl
 spot-normal fed dead = refl
 
 -- of an open one the start stays
-pub normal-target : (x : Spot) → isOpen (normal x .phase) ≡ true → normal x .target ≡ x .target
+pub normal-target : (x : Spot) → isOpen (normal x .phase) ≡ true → normal x .target .0 ≡ x .target .0
 normal-target x = go (isOpen (x .phase)) refl
   where
     go : (b : Bool) → isOpen (x .phase) ≡ b → isOpen (cond b x (flat (x .phase)) .phase) ≡ true
-        → cond b x (flat (x .phase)) .target ≡ x .target
+        → cond b x (flat (x .phase)) .target .0 ≡ x .target .0
     go true e o = refl
     go false e o = absurd (true≢false (sym o ∙ e))
+
+-- outside it is 0
+pub normal-start : (x : Spot) → normal x .target .0 ≤ x .target .0
+normal-start x = go (isOpen (x .phase))
+  where
+    go : (b : Bool) → cond b x (flat (x .phase)) .target .0 ≤ x .target .0
+    go true = omega arith
+    go false = omega arith
+
+-- an open one's phase is one in a target
+pub normal-phase : (x : Spot) → isOpen (normal x .phase) ≡ true → InTarget (x .phase)
+normal-phase x = go (isOpen (x .phase)) refl
+  where
+    go : (b : Bool) → isOpen (x .phase) ≡ b → isOpen (cond b x (flat (x .phase)) .phase) ≡ true → InTarget (x .phase)
+    go true e o =
+        let q = both (leb 1 (x .phase)) (leb (x .phase) 3) e in
+        (leb-true 1 (x .phase) (q .0), leb-true (x .phase) 3 (q .1))
+    go false e o = absurd (true≢false (sym o ∙ e))
+
+-- no target starts behind the octets that are read
+pub start-inside : (n : ℕ) (st : State) → OpenFrom (λ (a : ℕ). a ≤ n) st → startOf (openAt st) ≤ n
+start-inside n (gap ls) h = omega arith
+start-inside n (target ls a) h = h
+start-inside n (percent ls a) h = h
+start-inside n (hex ls a) h = h
+start-inside n (after o) h = omega arith
+start-inside n (semi o) h = omega arith
+start-inside n (name o m) h = omega arith
+start-inside n (named o m e) h = omega arith
+start-inside n (equals o m e) h = omega arith
+start-inside n (bare o m e v) h = omega arith
+start-inside n (wide o m e v) h = omega arith
+start-inside n (quote o m e v) h = omega arith
+start-inside n (escape o m e v) h = omega arith
+start-inside n dead h = omega arith

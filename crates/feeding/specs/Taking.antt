@@ -3,7 +3,7 @@ use Prim.Native.Nat.{ℕ, _+_, _≤_}
 use mathlib.Core.List.{List}
 use lib.ListN.{length}
 use Rattle.outcomes.specs.Number.{limit}
-use Rattle.outcomes.specs.Feeding.{Feeding}
+use Rattle.outcomes.specs.Feeding.{Feeding, startIn}
 use Rattle.phases.specs.declared.spot.Spot.{Spot}
 use Rattle.phases.specs.Spots.{spot}
 
@@ -15,4 +15,4 @@ pub record Takes (st : Feeding) (part buffer : List ℕ) : Type 0 where
 
 -- where reading stands, by what the state remembers
 abbrev pub heldSpot : Feeding → Spot
-heldSpot st = spot (st .phase) (st .target) (st .judged)
+heldSpot st = spot (st .phase) (startIn st) (st .judged)

@@ -1,10 +1,10 @@
-// A header that arrives in parts. Each part is judged from the phase on in which the one before it ended, and then stored behind what
+// A header that arrives in parts. Each part is judged from the spot on at which the one before it ended, and then stored behind what
 // was gathered; so an octet is judged once, however the header is cut, and a refusal stores nothing.
 ghost use mathlib.Core.Path.{_≡_};
 ghost use Prim.Native.Nat.{_+_, suc, min};
 ghost use lib.ListN.{length};
 ghost use Rattle.outcomes.specs.Number.{limit};
-ghost use Rattle.outcomes.specs.Feeding.{start, movedTo, FeedsIn, Feeds, FinishesIn, Finishes};
+ghost use Rattle.outcomes.specs.Feeding.{start, movedTo, startIn, FeedsIn, Feeds, FinishesIn, Finishes};
 ghost use Rattle.answers.specs.Read.{readNumbers, readOut};
 ghost use Rattle.answers.specs.Feed.{feedNumbers, feedOut, stateOf};
 ghost use Rattle.feeding.specs.Taking.{Takes, heldSpot};
@@ -60,13 +60,27 @@ fn moved(state: Feeding, total: usize, place: usize) -> Feeding
     next
 }
 
+// Where the open target starts. Whatever the state names, it is no place behind the octets that counted, so that a fault that is told is
+// remembered.
+fn start_in(state: Feeding) -> Place
+    ensures { λ r. ⌜ r .0 ≡ startIn (stateOf state) ⌝ }
+{
+    let named = state.target;
+    let total = state.total;
+    if total < named {
+        return Place(total);
+    }
+    Place(named)
+}
+
 // Where reading stands.
 fn spot_of(state: Feeding) -> Spot
     ensures { λ r. ⌜ r ≡ heldSpot (stateOf state) ⌝ }
 {
+    let target = start_in(state);
     Spot {
         phase: state.phase,
-        target: state.target,
+        target,
         judged: state.judged,
     }
 }
@@ -81,7 +95,7 @@ fn whole(part: &[u8]) -> Span
     }
 }
 
-// A part behind octets that begin some header, for which there is room.
+// A part for which there is room, behind octets of which nothing is wrong.
 fn take(edition: Edition, state: Feeding, part: &[u8], buffer: &mut [u8]) -> FeedAnswer
     requires { ⌜ Takes (stateOf state) (now part) (now buffer) ⌝ }
     ensures { λ r. ⌜ FeedsIn (stateOf state) (now (part .entry)) (now (buffer .entry)) edition
@@ -94,7 +108,7 @@ fn take(edition: Edition, state: Feeding, part: &[u8], buffer: &mut [u8]) -> Fee
             let place = before + at.0;
             FeedAnswer::Malformed(Place(place), moved(state, total, place))
         }
-        PartScan::Unfit(start) => FeedAnswer::Malformed(Place(start), moved(state, total, start)),
+        PartScan::Unfit(start) => FeedAnswer::Malformed(start, moved(state, total, start.0)),
         PartScan::Through(spot) => {
             putting::part::put_part(part, whole(part), buffer, OutPlace(before));
             FeedAnswer::Begun(Feeding {
@@ -102,14 +116,14 @@ fn take(edition: Edition, state: Feeding, part: &[u8], buffer: &mut [u8]) -> Fee
                 phase: spot.phase,
                 total,
                 place: total,
-                target: spot.target,
+                target: spot.target.0,
                 judged: spot.judged,
             })
         }
     }
 }
 
-// One part more. Within the limit, the place lies before the total just if the octets so far begin no header.
+// One part more. Within the limit, the place lies before the total just if something is wrong with the octets so far.
 fn feed_in(edition: Edition, state: Feeding, part: &[u8], buffer: &mut [u8]) -> FeedAnswer
     ensures { λ r. ⌜ FeedsIn (stateOf state) (now (part .entry)) (now (buffer .entry)) edition
         (feedOut (feedNumbers r) (now (buffer .exit))) (stateOf (feedNumbers r .next)) ⌝ }
@@ -140,7 +154,7 @@ pub fn feed(state: Feeding, part: &[u8], buffer: &mut [u8]) -> FeedAnswer
     }
 }
 
-// Reads what was gathered. Octets that begin no header were not gathered whole: their place is remembered.
+// Reads what was gathered. Octets of which something is wrong were not gathered whole: their place is remembered.
 fn finish_in(
     edition: Edition,
     state: Feeding,

@@ -15,7 +15,7 @@ use Rattle.outcomes.specs.Number.{limit, tooLong, malformedHeader}
 use Rattle.outcomes.specs.Read
 use Rattle.outcomes.specs.Read.{ReadOut, Read, ReadIn, not-derived, no-link-room, no-param-room, reads}
 use Rattle.outcomes.specs.InEdition.{unknown, known}
-use Rattle.outcomes.specs.Feed.{FeedOut, Feed, FeedIn, small-buffer, too-long, begins-none, begins, FinishIn, no-buffer, as-read}
+use Rattle.outcomes.specs.Feed.{FeedOut, Feed, FeedIn, small-buffer, too-long, wrong-so-far, right-so-far, FinishIn, no-buffer, as-read}
 use Rattle.outcomes.specs.Feeding.{Feeding, Holds, over, stuck, begun, Feeds, Finishes}
 use Rattle.outcomes.proofs.InEdition.{edition-or-none, in-unknown}
 use Rattle.outcomes.proofs.ReadSettled.{read-in, read-settled}
@@ -74,8 +74,8 @@ tells : {e : Edition} {octets part buffer : List ℕ} {o : FeedOut} → limit �
     → FeedIn e octets part buffer o → Tells e (octets ++ part) o
 tells h s (small-buffer l) = absurd (omega arith)
 tells h s (too-long _ l) = absurd (omega arith)
-tells h s (begins-none _ _ n k) = record { none-begins = λ _. n; told = λ _. refl }
-tells h s (begins _ _ b) = record { none-begins = λ e _. omega arith; told = λ n. absurd (n b) }
+tells h s (wrong-so-far _ _ n k) = record { wrong = λ _. n; told = λ _. refl }
+tells h s (right-so-far _ _ b) = record { wrong = λ e _. omega arith; told = λ n. absurd (n b) }
 
 -- a feed behind any list of parts, in an edition
 pub feed-answers-in : (e : Edition) {ps : List (List ℕ)} {part buffer : List ℕ} {st next : Feeding} {o : FeedOut}
@@ -98,8 +98,8 @@ stuck-if : {e : Edition} {octets part buffer : List ℕ} {o : FeedOut} → FeedI
     → (Begun (further e) (octets ++ part) → ⊥) × Place (further e) (octets ++ part) (o .place)
 stuck-if (small-buffer l) e = absurd (omega arith)
 stuck-if (too-long _ l) e = absurd (omega arith)
-stuck-if (begins-none _ _ n k) e = (n, k)
-stuck-if (begins _ _ b) e = absurd (omega arith)
+stuck-if (wrong-so-far _ _ n k) e = (n, k)
+stuck-if (right-so-far _ _ b) e = absurd (omega arith)
 
 -- the octets of parts listed behind others
 whole-behind : (ps : List (List ℕ)) (part : List ℕ) (qs : List (List ℕ)) (more : List ℕ)
@@ -119,23 +119,23 @@ place-stays e ps qs part more buffer other st next su after o q d f m g h s =
     let none : Begun (further e) (whole (ps ++ part ∷ qs) ++ more) → ⊥ = rw w (λ b. n (begun-front (apart e) u v b)) in
     let place : Place (further e) (whole (ps ++ part ∷ qs) ++ more) (o .place) = rw w (still-stuck (apart e) n v p) in
     let one = feed-in e (whole (ps ++ part ∷ qs)) more other .2 in
-    one q (feed-answers-in e g h) ∙ sym (one _ (begins-none (handed-right e g .room) s none place))
+    one q (feed-answers-in e g h) ∙ sym (one _ (wrong-so-far (handed-right e g .room) s none place))
 
 -- 1 is answered of too many octets alone
 long-if : {e : Edition} {octets part buffer : List ℕ} {o : FeedOut} → FeedIn e octets part buffer o → o .number ≡ tooLong
     → limit < length (octets ++ part)
 long-if (small-buffer l) e = absurd (omega arith)
 long-if (too-long _ l) e = l
-long-if (begins-none _ _ n k) e = absurd (omega arith)
-long-if (begins _ _ b) e = absurd (omega arith)
+long-if (wrong-so-far _ _ n k) e = absurd (omega arith)
+long-if (right-so-far _ _ b) e = absurd (omega arith)
 
 -- and always of them, where there is a buffer
 long-feed : {e : Edition} {octets part buffer : List ℕ} {o : FeedOut} → limit ≤ length buffer → limit < length (octets ++ part)
     → FeedIn e octets part buffer o → o .number ≡ tooLong
 long-feed h l (small-buffer s) = absurd (omega arith)
 long-feed h l (too-long _ _) = refl
-long-feed h l (begins-none _ s _ _) = absurd (omega arith)
-long-feed h l (begins _ s _) = absurd (omega arith)
+long-feed h l (wrong-so-far _ s _ _) = absurd (omega arith)
+long-feed h l (right-so-far _ s _) = absurd (omega arith)
 
 long-read : {e : Edition} {octets L P : List ℕ} {o : ReadOut} → limit < length octets → ReadIn e octets L P o → o .number ≡ tooLong
 long-read l (Read.too-long _) = refl

@@ -28,8 +28,8 @@ module _ {st : Feeding} {part buffer : List ℕ} where
   long-still h (too-long _ l) = h
   long-still h (remembered _ s k) = h
   long-still h (faulty _ s k i) = h
-  long-still h (unfit _ s k) = h
-  long-still h (stored _ s k) =
+  long-still h (unfit _ s k _ _) = h
+  long-still h (stored _ s k _) =
       let n = st .total in
       let behind = drop (n + length part) buffer in
       omega (
@@ -46,8 +46,8 @@ module _ {st : Feeding} {part buffer : List ℕ} where
   state-still h (too-long l _) = absurd (omega arith)
   state-still h (remembered l _ _) = absurd (omega arith)
   state-still h (faulty l _ _ _) = absurd (omega arith)
-  state-still h (unfit l _ _) = absurd (omega arith)
-  state-still h (stored l _ _) = absurd (omega arith)
+  state-still h (unfit l _ _ _ _) = absurd (omega arith)
+  state-still h (stored l _ _ _) = absurd (omega arith)
 
 -- what a state that is right promises of a feed and of the finish, in its edition
 its-edition : {e : Edition} {octets buffer : List ℕ} {st : Feeding} → Holds e octets buffer st → numberOf e ≡ st .edition

@@ -18,7 +18,7 @@ use Rattle.grammar.proofs.Editions.{apart}
 use Rattle.grammar.proofs.Growing.{begins-front, faulty-append}
 use Rattle.grammar.proofs.Places.{judged, shut-faulty, faulty-shut, first-target}
 use Rattle.outcomes.specs.Number.{limit, done, malformedHeader}
-use Rattle.outcomes.specs.Feed.{FeedOut, unstored, FeedIn, small-buffer, too-long, begins-none, begins}
+use Rattle.outcomes.specs.Feed.{FeedOut, unstored, FeedIn, small-buffer, too-long, wrong-so-far, right-so-far}
 use Rattle.outcomes.specs.Feeding.{Feeding, Feeds}
 use Rattle.outcomes.proofs.FeedSettled.{feed-in}
 use Rattle.laws.specs.Feedings.{whole, HandedOut, FirstFaulty, TargetsTold}
@@ -32,8 +32,8 @@ module _ (e : Edition) where
       → Begun (further e) (octets ++ part) → FeedIn e octets part buffer o → o .number ≡ done
   untold h s b (small-buffer l) = absurd (omega arith)
   untold h s b (too-long _ l) = absurd (omega arith)
-  untold h s b (begins-none _ _ n k) = absurd (n b)
-  untold h s b (begins _ _ _) = refl
+  untold h s b (wrong-so-far _ _ n k) = absurd (n b)
+  untold h s b (right-so-far _ _ _) = refl
 
   -- nothing is wrong with the octets in front of a first faulty target's `>`
   begun-before : (s : List ℕ) {a k : ℕ} → FirstFaulty e s a k → (n : ℕ) → n ≤ k → Begun (further e) (take n s)
@@ -79,7 +79,7 @@ module _ (e : Edition) where
   closed-told ps part buffer st next o d f s a k w =
       let one = feed-in e (whole ps) part buffer .2 in
       one o (feed-answers-in e d f)
-      ∙ sym (one _ (begins-none (handed-right e d .room) s (λ b. b .references a k (w .faulty)) (first-place w)))
+      ∙ sym (one _ (wrong-so-far (handed-right e d .room) s (λ b. b .references a k (w .faulty)) (first-place w)))
 
 -- the case
 first-of-it : (e : Edition) → FirstFaulty e (octets "<1:a>") 1 4

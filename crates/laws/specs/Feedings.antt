@@ -62,7 +62,7 @@ FeedAnswers =
 -- 2 is answered exactly if something is wrong with the octets: no derivable header begins with them, or a target that is closed among
 -- them is no reference
 pub record Tells (e : Edition) (octets : List ℕ) (o : FeedOut) : Type 0 where
-  pub none-begins : o .number ≡ malformedHeader → Begun (further e) octets → ⊥
+  pub wrong : o .number ≡ malformedHeader → Begun (further e) octets → ⊥
   pub told : (Begun (further e) octets → ⊥) → o .number ≡ malformedHeader
 
 -- so does a feed within the limit, of all octets so far

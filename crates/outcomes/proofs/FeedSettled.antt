@@ -18,8 +18,8 @@ use Rattle.outcomes.specs.Feed.{
   FeedIn,
   small-buffer,
   too-long,
-  begins-none,
-  begins,
+  wrong-so-far,
+  right-so-far,
   FinishIn,
   no-buffer,
   as-read,
@@ -47,10 +47,10 @@ module _ (e : Edition) (fed part buffer : List ℕ) where
   cases : (q : FeedOut) → FeedIn e fed part buffer q → Cases q
   cases _ (small-buffer l) = that l refl
   cases _ (too-long h l) = this h (that l refl)
-  cases _ (begins-none {k} h s n p) =
+  cases _ (wrong-so-far {k} h s n p) =
       this h
       (this s (that n (ap (unstored buffer malformedHeader) (one-place (further e) (apart e) (fed ++ part) .2 k p))))
-  cases _ (begins h s b) = this h (this s (this b refl))
+  cases _ (right-so-far h s b) = this h (this s (this b refl))
 
   pub feed-in : Settled (FeedIn e fed part buffer)
   feed-in =
@@ -58,8 +58,8 @@ module _ (e : Edition) (fed part buffer : List ℕ) where
       (order
       (λ h. order
       (λ s. branch (begun-decided (further e) (apart e) (fed ++ part)) (λ b n. n b) (λ b c q z. z)
-      (λ b. only (begins h s b))
-      (λ n. only (begins-none h s n (one-place (further e) (apart e) (fed ++ part) .1))))
+      (λ b. only (right-so-far h s b))
+      (λ n. only (wrong-so-far h s n (one-place (further e) (apart e) (fed ++ part) .1))))
       (λ l. only (too-long h l)))
       (λ l. only (small-buffer l)))
 

@@ -87,8 +87,8 @@ unstored buffer n z = record { refused = λ _. refl; place = λ _. refl }
 feed-in : (e : Edition) (fed part buffer : List ℕ) (o : Feeds.FeedOut) → Feeds.FeedIn e fed part buffer o → FeedKeeps buffer o
 feed-in e fed part buffer _ (Feeds.small-buffer l) = unstored buffer 7 (λ e. omega arith)
 feed-in e fed part buffer _ (Feeds.too-long h l) = unstored buffer 1 (λ e. omega arith)
-feed-in e fed part buffer _ (Feeds.begins-none h s n p) = record { refused = λ _. refl; place = λ n. absurd (n refl) }
-feed-in e fed part buffer _ (Feeds.begins h s b) = record { refused = λ n. absurd (n refl); place = λ _. refl }
+feed-in e fed part buffer _ (Feeds.wrong-so-far h s n p) = record { refused = λ _. refl; place = λ n. absurd (n refl) }
+feed-in e fed part buffer _ (Feeds.right-so-far h s b) = record { refused = λ n. absurd (n refl); place = λ _. refl }
 
 finish-in : (e : Edition) (fed buffer L P : List ℕ) (o : Reading.ReadOut) → Feeds.FinishIn e fed buffer L P o → ReadKeeps L P o
 finish-in e fed buffer L P _ (Feeds.no-buffer l) = plainly L P 7 (λ e. omega arith)

@@ -38,9 +38,9 @@ module _ (e : Edition) (fed part buffer : List ℕ) where
     small-buffer : length buffer < limit → FeedIn (unstored buffer noOutputRoom 0)
     too-long : limit ≤ length buffer → limit < length (fed ++ part) → FeedIn (unstored buffer tooLong 0)
     -- something is wrong with the octets so far: they begin no header, or a target that is closed among them is no reference
-    begins-none : {k : ℕ} → limit ≤ length buffer → length (fed ++ part) ≤ limit → (Begun (further e) (fed ++ part) → ⊥)
+    wrong-so-far : {k : ℕ} → limit ≤ length buffer → length (fed ++ part) ≤ limit → (Begun (further e) (fed ++ part) → ⊥)
         → Place (further e) (fed ++ part) k → FeedIn (unstored buffer malformedHeader k)
-    begins : limit ≤ length buffer → length (fed ++ part) ≤ limit → Begun (further e) (fed ++ part)
+    right-so-far : limit ≤ length buffer → length (fed ++ part) ≤ limit → Begun (further e) (fed ++ part)
         → FeedIn (gathering (fed ++ part) buffer)
 
 -- the end of the octets `fed`, with their gathering buffer and tables that hold L and P, in the edition e

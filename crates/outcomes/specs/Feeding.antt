@@ -1,5 +1,5 @@
 -- What a feeding remembers between calls, and what feeds and the finish promise of it.
-use Prim.Native.Nat.{ℕ, suc, _+_, _≤_, _<_}
+use Prim.Native.Nat.{ℕ, suc, _+_, _≤_, _<_, min}
 use mathlib.Core.Path.{_≡_}
 use mathlib.Core.List.{List, [], _++_}
 use mathlib.Core.Option.{Option, none, some}
@@ -68,12 +68,20 @@ movedTo st n k =
 abbrev pub goneOn : Feeding → ℕ → ℕ → ℕ → ℕ → Feeding
 goneOn st n p a q = record { edition = st .edition; phase = p; total = n; place = n; target = a; judged = q }
 
+-- a phase in which a target is open (`Machine.phaseOf`)
+abbrev pub InTarget : ℕ → Type 0
+InTarget p = (1 ≤ p) × (p ≤ 3)
+
+-- the start of the open target that a state names, or the end of what counted, if that comes first
+abbrev pub startIn : Feeding → ℕ
+startIn st = min (st .target) (st .total)
+
 -- a feed on the state st, of one part, with a buffer
 module _ (st : Feeding) (part buffer : List ℕ) where
   -- What it answers and leaves, in an edition that there is, whatever the state and the buffer are otherwise. Where no fault is
-  -- remembered and the total stays within the limit, it is free whether the part is faulty, closes the target that was open wrongly, or
-  -- is stored, and so is what these cases take in braces: the place of the fault in the part, and where reading stands behind it. Nothing
-  -- else is free.
+  -- remembered and the total stays within the limit, it is free whether the part is faulty, closes a target that was open before it and
+  -- is told to be no reference, or is stored, and so is what these cases take in braces: the place of the fault in the part, and where
+  -- reading stands behind it. Nothing else is free: every fault that is told is remembered.
   pub data AnyFeed : FeedOut → Feeding → Type 0 where
     small-buffer : length buffer < limit → AnyFeed (unstored buffer noOutputRoom 0) st
     too-long : limit ≤ length buffer → limit < st .total + length part
@@ -83,9 +91,10 @@ module _ (st : Feeding) (part buffer : List ℕ) where
     faulty : {k : ℕ} → limit ≤ length buffer → st .total + length part ≤ limit → st .total ≤ st .place → k < length part
         → AnyFeed (unstored buffer malformedHeader (st .total + k))
         (movedTo st (st .total + length part) (st .total + k))
-    unfit : limit ≤ length buffer → st .total + length part ≤ limit → st .total ≤ st .place
-        → AnyFeed (unstored buffer malformedHeader (st .target)) (movedTo st (st .total + length part) (st .target))
+    unfit : limit ≤ length buffer → st .total + length part ≤ limit → st .total ≤ st .place → InTarget (st .phase) → 0 < length part
+        → AnyFeed (unstored buffer malformedHeader (startIn st)) (movedTo st (st .total + length part) (startIn st))
     stored : {p a q : ℕ} → limit ≤ length buffer → st .total + length part ≤ limit → st .total ≤ st .place
+        → a ≤ st .total + length part
         → AnyFeed
         (record {
           number = done;

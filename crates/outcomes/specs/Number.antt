@@ -9,7 +9,7 @@ done = 0
 abbrev pub tooLong : ℕ
 tooLong = 1
 
--- the grammar doesn't derive the header; at a feed, no derivable header begins with the octets so far
+-- the grammar doesn't derive the header, or a target is no reference; at a feed, something is wrong with the octets so far
 abbrev pub malformedHeader : ℕ
 malformedHeader = 2
 

@@ -98,8 +98,8 @@ module _ {extra : Extra} {s : List ℕ} {base : ℕ} where
       → Moved extra s base x a r
   target-move {x} {a} {e} g y m =
       behind-leads (y .forward)
-      (subst (λ (p : ℕ). Leads extra s base (spot p (x .target) (x .judged)) a (spot p (x .target) (judgedTo s x a e .judged)) e) (sym g)
-      (target-leads (x .target) (x .judged) (y .inside) (y .run)))
+      (subst (λ (p : ℕ). Leads extra s base (spot p (x .target .0) (x .judged)) a (spot p (x .target .0) (judgedTo s x a e .judged)) e) (sym g)
+      (target-leads (x .target .0) (x .judged) (y .inside) (y .run)))
       m
 
   -- ---- the octet at place i
@@ -125,7 +125,7 @@ module _ {extra : Extra} {s : List ℕ} {base : ℕ} where
           leads = here;
           inside = h;
           refused = ap (λ (y : Spot). y .phase) on ∙ q;
-          start = ap (λ (y : Spot). y .target) on;
+          start = ap (λ (y : Spot). y .target .0) on;
         })
 
     -- it leads on
@@ -162,10 +162,10 @@ module _ {extra : Extra} {s : List ℕ} {base : ℕ} {x y : Spot} {i : ℕ} {r :
       go (halted h) =
           stuck-at (record { last = h .last; leads = leads-on (f .leads) (h .leads); inside = h .inside; nowhere = h .nowhere })
 
-  pub gets-refused : {t : ℕ} → r ≡ Unfit t → PartScanned extra s base x (scans.Unfit t)
+  pub gets-refused : {t : Place} → r ≡ Unfit t → PartScanned extra s base x (scans.Unfit t)
   gets-refused e = go (subst (Moved extra s base y i) e m)
     where
-      go : {t : ℕ} → Moved extra s base y i (Unfit t) → PartScanned extra s base x (scans.Unfit t)
+      go : {t : Place} → Moved extra s base y i (Unfit t) → PartScanned extra s base x (scans.Unfit t)
       go (refused h) =
           unfit-at
           (record {

@@ -53,12 +53,12 @@ unfolding behindTarget
 behind-normal x c {p} (stays-open o) m n = go (eqb p 4) refl
   where
     go : (b : Bool) → eqb p 4 ≡ b
-        → Normal (cond b (cond (judge.accepts (x .judged)) (flat 4) (spot unfit (x .target) 0)) (spot p (x .target) (judge.step (x .judged) c)))
+        → Normal (cond b (cond (judge.accepts (x .judged)) (flat 4) (spot unfit (x .target .0) 0)) (spot p (x .target .0) (judge.step (x .judged) c)))
     go true e = absurd (false≢true (sym (ap isOpen (eqb-true p 4 e)) ∙ o))
-    go false e = open-normal p (x .target) (judge.step (x .judged) c) o
+    go false e = open-normal p (x .target .0) (judge.step (x .judged) c) o
 behind-normal x c closes m n = go (judge.accepts (x .judged)) n
   where
-    go : (b : Bool) → (cond b (flat 4) (spot unfit (x .target) 0) .phase ≡ unfit → ⊥) → Normal (cond b (flat 4) (spot unfit (x .target) 0))
+    go : (b : Bool) → (cond b (flat 4) (spot unfit (x .target .0) 0) .phase ≡ unfit → ⊥) → Normal (cond b (flat 4) (spot unfit (x .target .0) 0))
     go true n = flat-normal 4
     go false n = absurd (n refl)
 behind-normal x c nowhere m n = absurd (m refl)

@@ -37,13 +37,13 @@ module _ (extra : Extra) (s : List ℕ) (base : ℕ) where
     pub leads : Leads extra s base x a last place
     pub inside : place < length s
     pub refused : onward extra last (base + suc place) (getD s place 0) .phase ≡ unfit
-    pub start : onward extra last (base + suc place) (getD s place 0) .target ≡ t
+    pub start : onward extra last (base + suc place) (getD s place 0) .target .0 ≡ t
 
   -- from the spot x at place a
   pub data Moved (x : Spot) (a : ℕ) : Move → Type 0 where
     ended : {y : Spot} → Leads extra s base x a y (length s) → Moved x a (End y)
     halted : {k : Place} → Halts x a (k .0) → Moved x a (Halt k)
-    refused : {t : ℕ} → Refuses x a t → Moved x a (Unfit t)
+    refused : {t : Place} → Refuses x a (t .0) → Moved x a (Unfit t)
     moved : {y : Spot} {c : Cursor} → a < c .at .0 → c .at .0 ≤ length s → Leads extra s base x a y (c .at .0) → Normal y
         → Moved x a (To y c)
 
@@ -51,8 +51,8 @@ module _ (extra : Extra) (s : List ℕ) (base : ℕ) where
   pub data PartScanned (x : Spot) : scan.PartScan → Type 0 where
     through : {y : Spot} → Leads extra s base x 0 y (length s) → PartScanned x (scans.Through y)
     stuck-at : {k : Place} → Halts x 0 (k .0) → PartScanned x (scans.Stuck k)
-    unfit-at : {t : ℕ} → Refuses x 0 t → PartScanned x (scans.Unfit t)
+    unfit-at : {t : Place} → Refuses x 0 (t .0) → PartScanned x (scans.Unfit t)
 
 -- the spot behind the octets of a target from place a up to place e
 abbrev pub judgedTo : List ℕ → Spot → ℕ → ℕ → Spot
-judgedTo s x a e = spot (x .phase) (x .target) (judge.run (x .judged) (slice a e s))
+judgedTo s x a e = spot (x .phase) (x .target .0) (judge.run (x .judged) (slice a e s))

@@ -20,7 +20,7 @@ use reference_scan::run_over;
 pub enum Move {
     End(Spot),
     Halt(Place),
-    Unfit(usize),
+    Unfit(Place),
     To(Spot, Cursor),
 }
 
@@ -50,12 +50,14 @@ fn behind(edition: Edition, s: &[u8], base: usize, spot: Spot, c: Cursor) -> Mov
     if i >= s.len() {
         return Move::End(spot);
     }
-    let next = onward(edition, spot, base + i + 1, s[i]);
+    let after = base + i + 1;
+    let next = onward(edition, spot, Place(after), s[i]);
     if next.phase == phases::STUCK {
         return Move::Halt(at);
     }
     if next.phase == UNFIT {
-        return Move::Unfit(next.target);
+        let start = next.target;
+        return Move::Unfit(start);
     }
     Move::To(next, c.past_octet(s))
 }
@@ -65,10 +67,11 @@ fn judged_to(s: &[u8], spot: Spot, from: Cursor, to: Cursor) -> Spot
     requires { ⌜ (from .at .0 ≤ to .at .0) × (to .at .0 ≤ length (now s)) ⌝ }
     ensures { λ r. ⌜ r ≡ judgedTo (now (s .entry)) spot (from .at .0) (to .at .0) ⌝ }
 {
+    let target = spot.target;
     let judged = run_over(s, from.span_to(to), spot.judged);
     Spot {
         phase: spot.phase,
-        target: spot.target,
+        target,
         judged,
     }
 }

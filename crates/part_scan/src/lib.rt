@@ -19,7 +19,7 @@ mod go_on;
 pub enum PartScan {
     Through(Spot),
     Stuck(Place),
-    Unfit(usize),
+    Unfit(Place),
 }
 
 // A part before which `base` octets of the header stand.

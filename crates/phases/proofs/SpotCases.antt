@@ -24,7 +24,7 @@ module _ (x : Spot) where
   normal-flat e = sym (passed x (flat (x .phase)) e)
 
   module _ (p c : ℕ) where
-    pub goes-on : (p ≡ 4 → ⊥) → spot p (x .target) (judge.step (x .judged) c) ≡ behindTarget x p c
+    pub goes-on : (p ≡ 4 → ⊥) → spot p (x .target .0) (judge.step (x .judged) c) ≡ behindTarget x p c
     unfolding behindTarget
     goes-on n = sym (passed _ _ (ne-eqb p 4 n))
 
@@ -32,7 +32,7 @@ module _ (x : Spot) where
     unfolding behindTarget
     is-reference e a = sym (chosen _ _ (eq-eqb p 4 e) ∙ chosen (flat 4) _ a)
 
-    pub no-reference : p ≡ 4 → judge.accepts (x .judged) ≡ false → spot unfit (x .target) 0 ≡ behindTarget x p c
+    pub no-reference : p ≡ 4 → judge.accepts (x .judged) ≡ false → spot unfit (x .target .0) 0 ≡ behindTarget x p c
     unfolding behindTarget
     no-reference e a = sym (chosen _ _ (eq-eqb p 4 e) ∙ passed (flat 4) _ a)
 

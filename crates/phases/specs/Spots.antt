@@ -16,7 +16,7 @@ abbrev pub unfit : ℕ
 unfit = 13
 
 abbrev pub spot : ℕ → ℕ → ℕ → Spot
-spot p a q = record { phase = p; target = a; judged = q }
+spot p a q = record { phase = p; target = record { 0 = a }; judged = q }
 
 -- outside targets
 abbrev pub flat : ℕ → Spot
@@ -36,7 +36,7 @@ Normal x = isOpen (x .phase) ≡ false → x ≡ flat (x .phase)
 -- in a target, whose octet c leads to the phase p
 unfoldable pub behindTarget : Spot → ℕ → ℕ → Spot
 behindTarget x p c =
-    cond (eqb p 4) (cond (judge.accepts (x .judged)) (flat 4) (spot unfit (x .target) 0)) (spot p (x .target) (judge.step (x .judged) c))
+    cond (eqb p 4) (cond (judge.accepts (x .judged)) (flat 4) (spot unfit (x .target .0) 0)) (spot p (x .target .0) (judge.step (x .judged) c))
 
 module _ (extra : Extra) where
   -- the spot behind the octet c, behind which place a of the header is

@@ -6,6 +6,7 @@ use crate::AFTER;
 use crate::HEX;
 use crate::TARGET;
 use crate::on;
+use kinds::Place;
 use octets::editions::Edition;
 use reference_octet::accepts;
 use reference_octet::next;
@@ -16,7 +17,7 @@ pub const UNFIT: usize = 13;
 // The phase and, in a target, the target's start and the state of its judging as a reference; elsewhere both are 0.
 pub struct Spot {
     pub phase: usize,
-    pub target: usize,
+    pub target: Place,
     pub judged: usize,
 }
 
@@ -26,7 +27,7 @@ fn flat(phase: usize) -> Spot
 {
     Spot {
         phase,
-        target: 0,
+        target: Place(0),
         judged: 0,
     }
 }
@@ -71,8 +72,8 @@ fn behind_target(spot: Spot, phase: usize, c: u8) -> Spot
 }
 
 // The spot behind the octet c, behind which the place `after` of the header is.
-pub fn onward(edition: Edition, spot: Spot, after: usize, c: u8) -> Spot
-    ensures { λ r. ⌜ r ≡ onward (further edition) spot after c ⌝ }
+pub fn onward(edition: Edition, spot: Spot, after: Place, c: u8) -> Spot
+    ensures { λ r. ⌜ r ≡ onward (further edition) spot (after .0) c ⌝ }
 {
     let phase = on(edition, spot.phase, c);
     if is_open(spot.phase) {

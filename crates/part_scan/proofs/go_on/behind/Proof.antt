@@ -9,11 +9,11 @@ use Rattle.part_scan.proofs.go_on.behind.Tie as tie
 returns : tie.Need-returns
 returns c = at-end (c .before .before .before .pre .0) (c .if1 .taken)
 
-add-onward : tie.Need-add-onward
-add-onward c = search needs
+add-after : tie.Need-add-after
+add-after c = search needs
 
-add-onward-2 : tie.Need-add-onward-2
-add-onward-2 c = search needs
+add-after-2 : tie.Need-add-after-2
+add-after-2 c = search needs
 
 shared-slice-read-onward : tie.Need-shared-slice-read-onward
 shared-slice-read-onward c = search needs
@@ -25,7 +25,7 @@ returns-2 : tie.Need-returns-2
 returns-2 c = one-halts (c .before .before .before .before .if1 .left) (place-as _ _ _ _ _ _ (c .before .before .onward .ensures)) (c .if2 .taken)
 
 returns-3 : tie.Need-returns-3
-returns-3 c = one-refused (c .before .before .before .before .before .before .if1 .left) (place-as _ _ _ _ _ _ (c .before .before .before .before .onward .ensures)) (c .if3 .taken)
+returns-3 c = one-refused (c .before .before .before .before .before .before .before .if1 .left) (place-as _ _ _ _ _ _ (c .before .before .before .before .before .onward .ensures)) (c .before .if3 .taken)
 
 past-octet-requires : tie.Need-past-octet-requires
 past-octet-requires c κs = search needs
@@ -39,8 +39,8 @@ behind-spec =
     tie.close
     (tie.spec
     returns
-    add-onward
-    add-onward-2
+    add-after
+    add-after-2
     shared-slice-read-onward
     onward-requires
     returns-2

@@ -12,8 +12,8 @@ next-requires c κs = search needs
 
 returns : tie.Need-returns
 returns c =
-    let a = c .before .before .args in
-    ap (λ (q : ℕ). spot (a .phase) (a .spot .target) q) (c .next .ensures) ∙ goes-on (a .spot) _ _ (c .before .if1 .taken)
+    let a = c .before .before .before .args in
+    ap (λ (q : ℕ). spot (a .phase) (a .spot .target .0) q) (c .next .ensures) ∙ goes-on (a .spot) _ _ (c .before .if1 .taken)
 
 accepts-requires : tie.Need-accepts-requires
 accepts-requires c κs = search needs
@@ -22,10 +22,10 @@ flat-requires : tie.Need-flat-requires
 flat-requires c κs = search needs
 
 returns-2 : tie.Need-returns-2
-returns-2 c = c .flat .ensures ∙ is-reference (c .before .before .before .before .args .spot) _ _ (c .before .before .before .if1 .left) (sym (c .before .before .accepts .ensures) ∙ c .before .if2 .taken)
+returns-2 c = c .flat .ensures ∙ is-reference (c .before .before .before .before .before .args .spot) _ _ (c .before .before .before .if1 .left) (sym (c .before .before .accepts .ensures) ∙ c .before .if2 .taken)
 
 returns-3 : tie.Need-returns-3
-returns-3 c = no-reference (c .before .before .before .args .spot) _ _ (c .before .before .if1 .left) (sym (c .before .accepts .ensures) ∙ c .if2 .left)
+returns-3 c = no-reference (c .before .before .before .before .args .spot) _ _ (c .before .before .if1 .left) (sym (c .before .accepts .ensures) ∙ c .if2 .left)
 
 pub behind-target-spec : {M : Type 1} → statement M
 behind-target-spec =
