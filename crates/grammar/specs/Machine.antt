@@ -1,7 +1,7 @@
 -- A machine that reads a header one octet at a time, with a state for each phase of reading. The grammar says what is derived; the
 -- machine says the same step by step (law `MachineExact`), for the promises of functions that stand somewhere inside a header. Of the
--- entries' promises only what a feeding's state holds speaks of it, for the number of the phase; what entries answer is settled by the
--- grammar alone. Each phase holds just what it needs; finished links and parameters are held last first.
+-- entries' promises only what a feeding's state holds speaks of it, for the number of the phase and the start of the open target; what
+-- entries answer is settled by the grammar alone. Each phase holds just what it needs; finished links and parameters are held last first.
 use Prim.Native.Nat.{ℕ, suc}
 use mathlib.Core.Bool.{Bool, cond}
 use mathlib.Core.List.{List, [], _∷_, reverse, reverseAux}

@@ -69,7 +69,7 @@ cut-short-finishes e ps buffer st d s b m L P o f =
     let cut = not-derived s (record { malformed = m; place = cut-short (further e) (whole ps) b }) in
     one o (finish-reads-of e (handed-right e d) f) ∙ sym (one _ cut)
 
--- within the limit 2 is answered of octets that begin nothing, and of no others
+-- within the limit 2 is answered of octets of which something is wrong, and of no others
 tells : {e : Edition} {octets part buffer : List ℕ} {o : FeedOut} → limit ≤ length buffer → length (octets ++ part) ≤ limit
     → FeedIn e octets part buffer o → Tells e (octets ++ part) o
 tells h s (small-buffer l) = absurd (omega arith)
@@ -93,7 +93,7 @@ feed-answers n ps part buffer st next o d f = go (edition-or-none n) d
 pub feed-tells : FeedTells
 feed-tells e ps part buffer st next o d f s = tells (handed-right e d .room) s (feed-answers-in e d f)
 
--- 2 is answered with the place of octets that begin nothing
+-- 2 is answered with the place of octets of which something is wrong
 stuck-if : {e : Edition} {octets part buffer : List ℕ} {o : FeedOut} → FeedIn e octets part buffer o → o .number ≡ malformedHeader
     → (Begun (further e) (octets ++ part) → ⊥) × Place (further e) (octets ++ part) (o .place)
 stuck-if (small-buffer l) e = absurd (omega arith)

@@ -4,7 +4,7 @@ use Prim.Native.Char.{code}
 use Prim.Native.String.{String, [] as none, _∷_ as _then_}
 use mathlib.Core.List.{List, [], _∷_}
 
--- the octets of a quoted text of ASCII characters
+-- the octets of a quoted text: the codes of its characters, none of them over 255
 abbrev pub octets : String → List ℕ
 octets none = []
 octets (c then s) = code c ∷ octets s

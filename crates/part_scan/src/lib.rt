@@ -1,4 +1,4 @@
-// A part of a header, judged octet by octet from the spot on at which the part before it ended.
+// A part of a header, judged from the spot on at which the part before it ended.
 ghost use Prim.Native.Nat.{_+_, _<_, _^_};
 ghost use lib.ListN.{length};
 ghost use Rattle.octets.specs.Editions.{further};

@@ -1,5 +1,5 @@
 -- Where a reading stands between two octets, and what an octet leads to there. In a target its judging as a reference goes along, by the
--- machine of references; the `>` of one that is no reference leads nowhere.
+-- machine of references; the `>` of one that is no reference leads to a phase of its own, from which nothing goes on.
 use Prim.Native.Nat.{ℕ, suc, _+_, _<_}
 use mathlib.Core.Path.{_≡_}
 use mathlib.Core.Bool.{Bool, false, cond, _&&_}

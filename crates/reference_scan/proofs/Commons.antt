@@ -43,9 +43,14 @@ pub fragment-keeps : (c : ℕ) → isPath c ≡ true → keeps 15 c ≡ true
 unfolding step
 fragment-keeps c h = rw h
 
-pub both-keep : (q : ℕ) → (eqb q 13 || eqb q 15) ≡ true → (c : ℕ) → isPath c ≡ true → keeps q c ≡ true
-both-keep q w c h = side (eqb q 13) refl w
+-- what keeps each of two states keeps either of them
+pub either-keeps : {f : ℕ → Bool} (p r : ℕ) → ((c : ℕ) → f c ≡ true → keeps p c ≡ true) → ((c : ℕ) → f c ≡ true → keeps r c ≡ true) →
+    (q : ℕ) → (eqb q p || eqb q r) ≡ true → (c : ℕ) → f c ≡ true → keeps q c ≡ true
+either-keeps p r x y q w c h = side (eqb q p) refl w
   where
-    side : (t : Bool) → eqb q 13 ≡ t → (t || eqb q 15) ≡ true → keeps q c ≡ true
-    side true e w = rw (eqb-true q 13 e) (path-keeps c h)
-    side false e w = rw (eqb-true q 15 w) (fragment-keeps c h)
+    side : (t : Bool) → eqb q p ≡ t → (t || eqb q r) ≡ true → keeps q c ≡ true
+    side true e w = rw (eqb-true q p e) (x c h)
+    side false e w = rw (eqb-true q r w) (y c h)
+
+pub both-keep : (q : ℕ) → (eqb q 13 || eqb q 15) ≡ true → (c : ℕ) → isPath c ≡ true → keeps q c ≡ true
+both-keep q w = either-keeps 13 15 path-keeps fragment-keeps q w

@@ -7,3 +7,4 @@ pub mod Commons
 pub mod Over
 pub mod Openings
 pub mod Hosting
+pub mod Triples

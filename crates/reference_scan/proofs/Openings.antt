@@ -14,7 +14,7 @@ use Rattle.reference_scan.proofs.Between.{comes-step, comes-then}
 
 module _ (s : List ℕ) where
   -- the octet c at a
-  octet : (a e q p c : ℕ) → e ≡ a + 1 → a < length s → getD s a 0 ≡ c → step q c ≡ p → (p ≡ 54 → ⊥) → Comes s a q e p
+  pub octet : (a e q p c : ℕ) → e ≡ a + 1 → a < length s → getD s a 0 ≡ c → step q c ≡ p → (p ≡ 54 → ⊥) → Comes s a q e p
   octet a e q p c w l g t n = rw w (comes-step l (sym (ap (step q) g ∙ t)) n)
 
   module _ (i : ℕ) where

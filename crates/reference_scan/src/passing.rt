@@ -1,12 +1,17 @@
-// Runs of octets that keep a state.
-ghost use Prim.Native.Nat.{_≤_};
+// Runs of octets, and of triples, that keep a state.
+ghost use mathlib.Core.Path.{_≡_};
+ghost use mathlib.Core.Bool.{true, _||_};
+ghost use Prim.Native.Nat.{_+_, _≤_};
+ghost use lib.Dec.{eqb};
 ghost use lib.ListN.{length};
 ghost use Rattle.octets.specs.Bits.{inBits};
 ghost use Rattle.reference_sets.specs.Sets.{isPath};
-ghost use Rattle.reference_scan.specs.Passed.{Passed, keeps};
+ghost use Rattle.reference_scan.specs.Passed.{Passed};
+ghost use Rattle.reference_scan.specs.Comes.{Comes};
 use crate::blocks::all_common;
 use crate::blocks::count_common;
 use octets::bits::in_bits;
+use octets::sets::is_hex;
 
 // Past a run of octets of a set, which is held as bits.
 fn past_set(s: &[u8], from: usize, low: u64, high: u64) -> usize
@@ -35,19 +40,49 @@ fn past_path(s: &[u8], from: usize) -> usize
     past_set(s, i, 0xafff_ffd2_0000_0000, 0x47ff_fffe_87ff_ffff)
 }
 
-// Past octets that keep the state, where it has such a run: a path, a query or a fragment, an authority, a scheme.
+// Whether a triple stands here, in a path, a query or a fragment.
+fn sees_triple(s: &[u8], i: usize, q: usize) -> bool
+    requires { ⌜ (i ≤ length (now s)) × ((eqb q 13 || eqb q 15) ≡ true) ⌝ }
+    ensures { λ r. ⌜ (r ≡ true → (i + 3 ≤ length (now (s .entry))) × Comes (now (s .entry)) i q (i + 3) q) ⌝ }
+{
+    if s.len() - i < 3 {
+        return false;
+    }
+    (s[i] == b'%') & is_hex(s[i + 1]) & is_hex(s[i + 2])
+}
+
+// Past octets and triples of a path or a query, or of a fragment.
+fn past_units(s: &[u8], from: usize, q: usize) -> usize
+    requires { ⌜ (from ≤ length (now s)) × ((eqb q 13 || eqb q 15) ≡ true) ⌝ }
+    ensures { λ r. ⌜ Comes (now (s .entry)) from q r q ⌝ }
+{
+    let mut i = past_path(s, from);
+    while sees_triple(s, i, q) {
+        i = past_path(s, i + 3);
+    }
+    i
+}
+
+// Past what keeps the state, where it has such a run: a path, a query or a fragment; an authority, or the host in it; its port; a scheme;
+// a first segment that is none.
 pub fn past_run(s: &[u8], i: usize, q: usize) -> usize
     requires { ⌜ i ≤ length (now s) ⌝ }
-    ensures { λ r. ⌜ Passed (keeps q) (now (s .entry)) i r ⌝ }
+    ensures { λ r. ⌜ Comes (now (s .entry)) i q r q ⌝ }
 {
     if (q == 13) | (q == 15) {
-        return past_path(s, i);
+        return past_units(s, i, q);
     }
-    if q == 6 {
+    if (q == 6) | (q == 10) {
         return past_set(s, i, 0x2bff_7fd2_0000_0000, 0x47ff_fffe_87ff_fffe);
+    }
+    if (q == 7) | (q == 11) {
+        return past_set(s, i, 0x03ff_0000_0000_0000, 0);
     }
     if q == 1 {
         return past_set(s, i, 0x03ff_6800_0000_0000, 0x07ff_fffe_07ff_fffe);
+    }
+    if q == 2 {
+        return past_set(s, i, 0x2bff_7fd2_0000_0000, 0x47ff_fffe_87ff_ffff);
     }
     i
 }

@@ -1,11 +1,18 @@
 -- RFC 3986's grammar, rule by rule as its Appendix A has it, by its names. A name stands behind those that it uses, so the order is
--- from the smallest rule to the largest.
+-- from the smallest rule to the largest. Two names are added, `gap` and `group`, for what the forms of an IPv6 address have in common.
 use mathlib.Core.List.{List}
 use Prim.Native.Nat.{ℕ}
 use Rattle.rules.specs.Rule.{Rule, nothing, one, _then_, _or_, many, optional, some, times, upTo, Derives}
 use Rattle.references.specs.Octets.{Octets, has}
 use Rattle.references.specs.Octets.{ALPHA, DIGIT, HEXDIG, unreserved, sub-delims, colon, slash, question, hash, bracket, end-bracket, at}
 use Rattle.references.specs.Octets.{percent, dot, plus, hyphen, vee, from-1-to-9, from-0-to-4, from-0-to-5, digit-1, digit-2, digit-5}
+
+-- these two are named there and used by no other rule
+abbrev pub gen-delims : Rule Octets
+gen-delims = one colon or one slash or one question or one hash or one bracket or one end-bracket or one at
+
+abbrev pub reserved : Rule Octets
+reserved = gen-delims or one sub-delims
 
 abbrev pub pct-encoded : Rule Octets
 pct-encoded = one percent then one HEXDIG then one HEXDIG

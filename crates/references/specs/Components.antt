@@ -1,5 +1,5 @@
 -- The five components of a reference (RFC 3986, section 3): how they make it (section 5.3), and how it is taken apart again by the first
--- of some octets, as Appendix B does. A component that isn't there is undefined, which is not the same as empty: `a?` has a query and `a`
+-- of some octets, which is the way of Appendix B. A component that isn't there is undefined, which is not the same as empty: `a?` has a query and `a`
 -- has none.
 use Prim.Native.Nat.{ℕ}
 use mathlib.Core.Path.{_≡_}

@@ -9,7 +9,7 @@ pub data Octets : Type 0 where
   ALPHA DIGIT HEXDIG unreserved sub-delims : Octets
   -- `:` `/` `?` `#` `[` `]` `@` `%` `.` `+` `-`
   colon slash question hash bracket end-bracket at percent dot plus hyphen : Octets
-  -- `v` of either case, as ABNF's literals are
+  -- `v`; ABNF's literals stand for either case of a letter, so this set and HEXDIG have both
   vee : Octets
   -- `1` to `9`, `0` to `4`, `0` to `5`, `1`, `2`, `5`
   from-1-to-9 from-0-to-4 from-0-to-5 digit-1 digit-2 digit-5 : Octets

@@ -1,4 +1,4 @@
-// The parts of a link, judged by the grammar octet by octet. Each scan hands back the cursor behind what it passed, or the place at
+// The parts of a link, judged by the grammar. Each scan hands back the cursor behind what it passed, or the place at
 // which the header is malformed.
 use cursor::Cursor;
 use kinds::Place;

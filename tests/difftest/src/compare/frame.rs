@@ -87,7 +87,7 @@ fn judged(
                 place: total,
                 ..next
             };
-            place == 0 && next == moved
+            place == 0 && next == moved && next.target <= total
         }
         2 => {
             let moved = FeedingState {
@@ -95,7 +95,9 @@ fn judged(
                 place,
                 ..state
             };
-            place < total && next == moved
+            let open = (1..=3).contains(&state.phase);
+            let told = open && place == state.target.min(state.total);
+            place < total && (told || place >= state.total) && next == moved
         }
         _ => false,
     };
@@ -105,7 +107,7 @@ fn judged(
     Err(Difference {
         asked: asked(),
         library: format!("{answer:?}"),
-        expected: format!("0 with {total} octets, or 2 with a place before them all"),
+        expected: format!("0 with {total} octets, or 2 with a place in the part or of the open target"),
     })
 }
 

@@ -5,7 +5,7 @@ use mathlib.Core.Path.{sym, _∙_}
 use lib.ListN.{length}
 use borrow.Author.Needs.{needs}
 use Rattle.reference_scan.specs.Comes.{Comes}
-use Rattle.reference_scan.proofs.Between.{comes-none, comes-then, comes-step, comes-kept, judged-here}
+use Rattle.reference_scan.proofs.Between.{comes-none, comes-then, comes-step, judged-here}
 use Rattle.reference_scan.proofs.Closes.{closes}
 use Rattle.reference_scan.proofs.walking.walk.Statement.{statement}
 use Rattle.reference_scan.proofs.walking.walk.Tie as tie
@@ -29,7 +29,7 @@ returns : tie.Need-returns Inv-loop μ-loop
 returns c =
     let at = c .before .before .before in
     judged-here (c .judged-up-to .result) (c .judged-up-to .ensures)
-    (comes-then (at .loop .inv) (comes-kept (c .before .before .past-run .ensures)))
+    (comes-then (at .loop .inv) (c .before .before .past-run .ensures))
     (λ l. absurd (omega (arith, c .before .if1 .taken)))
 
 shared-slice-read-c : tie.Need-shared-slice-read-c Inv-loop μ-loop
@@ -42,7 +42,7 @@ returns-2 : tie.Need-returns-2 Inv-loop μ-loop
 returns-2 c =
     let at = c .before .before .before .before .before in
     judged-here (c .judged-up-to2 .result) (c .judged-up-to2 .ensures)
-    (comes-then (at .loop .inv) (comes-kept (c .before .before .before .before .past-run .ensures)))
+    (comes-then (at .loop .inv) (c .before .before .before .before .past-run .ensures))
     (λ l. rw (c .before .if2 .taken) (closes (at .loop .q)))
 
 next-requires : tie.Need-next-requires Inv-loop μ-loop
@@ -55,7 +55,7 @@ returns-3 : tie.Need-returns-3 Inv-loop μ-loop
 returns-3 c =
     let at = c .before .before .before .before .before .before .before in
     judged-here (c .judged-up-to3 .result) (c .judged-up-to3 .ensures)
-    (comes-then (at .loop .inv) (comes-kept (c .before .before .before .before .before .before .past-run .ensures)))
+    (comes-then (at .loop .inv) (c .before .before .before .before .before .before .past-run .ensures))
     (λ l. sym (c .before .before .next .ensures) ∙ c .before .if3 .taken)
 
 add-i : tie.Need-add-i Inv-loop μ-loop
@@ -69,7 +69,7 @@ loop-less c =
 loop-again : tie.Need-loop-again Inv-loop μ-loop
 loop-again c =
     let passed = c .before .before .before .before .before .past-run .ensures in
-    comes-then (comes-then (c .before .before .before .before .before .before .loop .inv) (comes-kept passed))
+    comes-then (comes-then (c .before .before .before .before .before .before .loop .inv) passed)
     (comes-step (omega (arith, c .before .before .before .before .if1 .left, passed .inside)) (c .before .next .ensures) (c .if3 .left))
 
 pub walk-spec : {M : Type 1} → statement M

@@ -1,0 +1,59 @@
+-- A `%` and two hex digits, if there are three octets. Assumes nothing.
+use Prim.Native.Nat.{_+_, _≤_}
+use native.Mathlib.Omega.{arith}
+use mathlib.Core.Path.{sym, _∙_}
+use mathlib.Core.Bool.{false≢true}
+use lib.ListN.{length}
+use borrow.Author.Needs.{needs}
+use Rattle.reference_scan.proofs.Triples.{triple}
+use Rattle.reference_scan.proofs.passing.sees_triple.Statement.{statement}
+use Rattle.reference_scan.proofs.passing.sees_triple.Tie as tie
+
+sub-if1 : tie.Need-sub-if1
+sub-if1 c = search needs
+
+returns : tie.Need-returns
+returns c = λ e. absurd (false≢true e)
+
+shared-slice-read-result : tie.Need-shared-slice-read-result
+shared-slice-read-result c = search needs
+
+add-is-hex : tie.Need-add-is-hex
+add-is-hex c = search needs
+
+shared-slice-read-is-hex : tie.Need-shared-slice-read-is-hex
+shared-slice-read-is-hex c = search needs
+
+is-hex-requires : tie.Need-is-hex-requires
+is-hex-requires c κs = search needs
+
+add-is-hex-2 : tie.Need-add-is-hex-2
+add-is-hex-2 c = search needs
+
+shared-slice-read-is-hex-2 : tie.Need-shared-slice-read-is-hex-2
+shared-slice-read-is-hex-2 c = search needs
+
+is-hex-requires-2 : tie.Need-is-hex-requires-2
+is-hex-requires-2 c κs = search needs
+
+returns-2 : tie.Need-returns-2
+returns-2 c =
+    let b = c .before .before .before .before .before in
+    let a = b .before .before in
+    let h : a .args .i + 3 ≤ length (a .args .s .now) = omega (arith, b .if1 .left, a .pre .0) in
+    λ e. (h, triple (a .args .s .now) (a .args .i) h (rw (c .before .before .is-hex .ensures, c .is-hex2 .ensures) at e) (a .args .q) (a .pre .1))
+
+pub sees-triple-spec : {M : Type 1} → statement M
+sees-triple-spec =
+    tie.close
+    (tie.spec
+    sub-if1
+    returns
+    shared-slice-read-result
+    add-is-hex
+    shared-slice-read-is-hex
+    is-hex-requires
+    add-is-hex-2
+    shared-slice-read-is-hex-2
+    is-hex-requires-2
+    returns-2)
