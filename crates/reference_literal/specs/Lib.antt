@@ -1,3 +1,2 @@
 -- What the crate `reference_literal` means by its words.
-pub mod Numbers
 pub mod Groups

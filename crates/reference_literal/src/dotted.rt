@@ -1,16 +1,15 @@
 // The IPv4 address at the end of an IPv6 address: behind n dots, t says how its number may go on.
 ghost use mathlib.Core.Path.{_≡_};
 ghost use Prim.Native.Nat.{_≤_, _<_};
-ghost use Rattle.reference_steps.specs.Machine.{step, number, dotted, inDotted};
+ghost use Rattle.reference_steps.specs.Machine.{step, number, dotted, numberEnds, inDotted};
 ghost use Rattle.reference_sets.specs.Sets.{of};
-ghost use Rattle.reference_literal.specs.Numbers.{numberEnds};
 use crate::numbers::number;
 use reference_sets::picking::pick;
 use reference_sets::sets::is_digit;
 
 fn one_digit_more(n: usize, t: usize, c: u8) -> usize
     requires { ⌜ n < 10 ⌝ }
-    ensures { λ r. ⌜ r ≡ dotted (of c) n (number (of c) t) ⌝ }
+    ensures { λ r. ⌜ r ≡ dotted n (number (of c) t) ⌝ }
 {
     let u = number(t, c);
     pick(u == 0, 54, 60 + 6 * n + u)

@@ -1,22 +1,22 @@
 // An IPv6 address: z is 1 behind `::`, g groups are finished, d digits of the next are read, t is how its number may go on.
 ghost use mathlib.Core.Path.{_≡_};
 ghost use Prim.Native.Nat.{_≤_, _<_};
-ghost use Rattle.reference_steps.specs.Machine.{step, moreDigits, groupEnds, addressEnds, inGroup};
+ghost use Rattle.reference_steps.specs.Machine.{step, grouped, fits4, groupBegins, groupGoesOn, moreDigits, groupEnds, addressEnds, inGroup};
 ghost use Rattle.reference_sets.specs.Sets.{of};
-ghost use Rattle.reference_literal.specs.Groups.{Grouped, stateAt, dottedMay, groupBegins, groupGoesOn};
+ghost use Rattle.reference_literal.specs.Groups.{Grouped};
 use crate::numbers::number;
 use reference_sets::picking::pick;
 
 fn state_at(z: usize, g: usize, d: usize, t: usize) -> usize
     requires { ⌜ (z < 10) × (g < 10) × (d < 10) × (t < 10) ⌝ }
-    ensures { λ r. ⌜ r ≡ stateAt z g d t ⌝ }
+    ensures { λ r. ⌜ r ≡ grouped z g d t ⌝ }
 {
     100 + ((8 * z + g) * 5 + d) * 6 + t
 }
 
 // Whether an IPv4 address may take the place of the last two groups.
 fn dotted_may(z: usize, g: usize) -> bool
-    ensures { λ r. ⌜ r ≡ dottedMay z g ⌝ }
+    ensures { λ r. ⌜ r ≡ fits4 z g ⌝ }
 {
     if z == 0 {
         return g == 6;
@@ -57,7 +57,7 @@ pub fn more_digits(z: usize, g: usize, d: usize, t: usize, c: u8) -> usize
 // Behind a colon.
 fn group_ends(z: usize, g: usize, d: usize, t: usize) -> usize
     requires { ⌜ Grouped z g d t ⌝ }
-    ensures { λ r. ⌜ r ≡ groupEnds (of 58) z g d t ⌝ }
+    ensures { λ r. ⌜ r ≡ groupEnds z g d t ⌝ }
 {
     let elided = pick((t == 0) & (z == 0), state_at(1, g, 0, 1), 54);
     let ended = pick(g + 1 + z <= 7, state_at(z, g + 1, 0, 0), 54);
@@ -66,7 +66,7 @@ fn group_ends(z: usize, g: usize, d: usize, t: usize) -> usize
 
 // Behind a bracket.
 fn address_ends(z: usize, g: usize, d: usize, t: usize) -> usize
-    ensures { λ r. ⌜ r ≡ addressEnds (of 93) z g d t ⌝ }
+    ensures { λ r. ⌜ r ≡ addressEnds z g d t ⌝ }
 {
     if d == 0 {
         return pick(t == 1, 12, 54);

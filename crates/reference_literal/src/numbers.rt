@@ -1,8 +1,7 @@
 // A number up to 255 without leading zeros, as an IPv4 address has four of.
 ghost use mathlib.Core.Path.{_≡_};
-ghost use Rattle.reference_steps.specs.Machine.{number};
+ghost use Rattle.reference_steps.specs.Machine.{firstDigit, secondDigit, laterDigit, number};
 ghost use Rattle.reference_sets.specs.Sets.{of};
-ghost use Rattle.reference_literal.specs.Numbers.{firstDigit, secondDigit, laterDigit};
 use reference_sets::picking::pick;
 use reference_sets::sets::is_digit;
 

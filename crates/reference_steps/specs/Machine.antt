@@ -23,6 +23,30 @@ use Rattle.references.specs.Octets.{Octets, has}
 use Rattle.references.specs.Octets.{ALPHA, DIGIT, HEXDIG, unreserved, sub-delims, colon, slash, question, hash, bracket, end-bracket, at}
 use Rattle.references.specs.Octets.{percent, dot, plus, hyphen, vee, from-1-to-9, from-0-to-4, from-0-to-5, digit-1, digit-2, digit-5}
 
+-- ---- states in an IP literal, and what follows whatever the octet is
+
+-- an IPv4 address behind n dots, if t is a number
+abbrev pub dotted : ℕ → ℕ → ℕ
+dotted n t = cond (eqb t 0) 54 (60 + 6 * n + t)
+
+-- an IPv6 address: z is 1 behind `::`, else 0; g groups are finished; d digits of the next are read; t is its number where an IPv4 address
+-- may stand, else 0. With no digit t is 1 behind `::`, and 0 behind a colon
+abbrev pub grouped : ℕ → ℕ → ℕ → ℕ → ℕ
+grouped z g d t = 100 + ((8 * z + g) * 5 + d) * 6 + t
+
+-- an IPv4 address takes the place of the last two groups
+abbrev pub fits4 : ℕ → ℕ → Bool
+fits4 z g = cond (eqb z 0) (eqb g 6) (leb g 5)
+
+-- behind a colon
+abbrev pub groupEnds : ℕ → ℕ → ℕ → ℕ → ℕ
+groupEnds z g d t =
+    cond (eqb d 0) (cond (eqb t 0 && eqb z 0) (grouped 1 g 0 1) 54) (cond (leb (g + 1 + z) 7) (grouped z (g + 1) 0 0) 54)
+
+-- behind a bracket: all eight groups are there, or `::` stands for those that aren't
+abbrev pub addressEnds : ℕ → ℕ → ℕ → ℕ → ℕ
+addressEnds z g d t = cond (cond (eqb d 0) (eqb t 1) (eqb z 1 || eqb g 7)) 12 54
+
 module _ (is : Octets → Bool) where
   -- ---- sets that states share
 
@@ -86,55 +110,43 @@ module _ (is : Octets → Bool) where
 
   -- ---- a number up to 255 without leading zeros
 
-  -- How it may go on behind one digit more: 1 not at all, 2 by any digit, 3 by `0` to `5`, 4 it is `1`, 5 it is `2`; and 0 stands for
-  -- no digit yet, and for no such number
-  abbrev pub number : ℕ → ℕ
-  number t =
-      cond (is DIGIT)
-      (getD
-      (cond (is from-1-to-9) (cond (is digit-1) 4 (cond (is digit-2) 5 2)) 1
-      ∷ 0
-      ∷ 1
-      ∷ cond (is from-0-to-5) 1 0
-      ∷ 2
-      ∷ cond (is from-0-to-4) 2 (cond (is digit-5) 3 1)
-      ∷ [])
-      t 0)
-      0
+  -- t tells how it may go on: 1 not at all, 2 by any digit, 3 by `0` to `5`, 4 it is `1`, 5 it is `2`; and 0 stands for no digit yet,
+  -- and for no such number. What t becomes behind its first digit
+  abbrev pub firstDigit : ℕ
+  firstDigit = cond (is from-1-to-9) (cond (is digit-1) 4 (cond (is digit-2) 5 2)) 1
 
-  -- the state of t behind n dots, if t is a number
-  abbrev pub dotted : ℕ → ℕ → ℕ
-  dotted n t = cond (eqb t 0) 54 (60 + 6 * n + t)
+  -- behind a second one, where it was `2`
+  abbrev pub secondDigit : ℕ
+  secondDigit = cond (is from-0-to-4) 2 (cond (is digit-5) 3 1)
+
+  -- behind any digit but the first
+  abbrev pub laterDigit : ℕ → ℕ
+  laterDigit t =
+      cond (eqb t 2) 1 (cond (eqb t 3) (cond (is from-0-to-5) 1 0) (cond (eqb t 4) 2 (cond (eqb t 5) secondDigit 0)))
+
+  -- behind any octet
+  abbrev pub number : ℕ → ℕ
+  number t = cond (is DIGIT) (cond (eqb t 0) firstDigit (laterDigit t)) 0
+
+  -- behind a number, n dots before it
+  abbrev pub numberEnds : ℕ → ℕ
+  numberEnds n = cond (is dot && ltb n 3) (60 + 6 * (n + 1)) (cond (is end-bracket && eqb n 3) 12 54)
 
   abbrev pub inDotted : ℕ → ℕ → ℕ
-  inDotted n t =
-      cond (is DIGIT) (dotted n (number t))
-      (cond (eqb t 0) 54 (cond (is dot && ltb n 3) (60 + 6 * (n + 1)) (cond (is end-bracket && eqb n 3) 12 54)))
+  inDotted n t = cond (is DIGIT) (dotted n (number t)) (cond (eqb t 0) 54 (numberEnds n))
 
   -- ---- an IPv6 address
 
-  -- z is 1 behind `::`, else 0; g groups are finished; d digits of the next are read; t is its number where an IPv4 address may stand,
-  -- else 0. With no digit t is 1 behind `::`, and 0 behind a colon
-  abbrev pub grouped : ℕ → ℕ → ℕ → ℕ → ℕ
-  grouped z g d t = 100 + ((8 * z + g) * 5 + d) * 6 + t
+  -- behind the first digit of a group, and behind a later one
+  abbrev pub groupBegins : ℕ → ℕ → ℕ
+  groupBegins z g = cond (leb (g + z) 7) (grouped z g 1 (cond (fits4 z g) (number 0) 0)) 54
 
-  -- an IPv4 address takes the place of the last two groups
-  abbrev pub fits4 : ℕ → ℕ → Bool
-  fits4 z g = cond (eqb z 0) (eqb g 6) (leb g 5)
+  abbrev pub groupGoesOn : ℕ → ℕ → ℕ → ℕ → ℕ
+  groupGoesOn z g d t = cond (ltb d 4) (grouped z g (d + 1) (cond (eqb t 0) 0 (number t))) 54
 
   -- a hex digit
   abbrev pub moreDigits : ℕ → ℕ → ℕ → ℕ → ℕ
-  moreDigits z g d t =
-      cond (eqb d 0) (cond (leb (g + z) 7) (grouped z g 1 (cond (fits4 z g) (number 0) 0)) 54)
-      (cond (ltb d 4) (grouped z g (d + 1) (cond (eqb t 0) 0 (number t))) 54)
-
-  abbrev pub groupEnds : ℕ → ℕ → ℕ → ℕ → ℕ
-  groupEnds z g d t =
-      cond (eqb d 0) (cond (eqb t 0 && eqb z 0) (grouped 1 g 0 1) 54) (cond (leb (g + 1 + z) 7) (grouped z (g + 1) 0 0) 54)
-
-  -- all eight groups are there, or `::` stands for those that aren't
-  abbrev pub addressEnds : ℕ → ℕ → ℕ → ℕ → ℕ
-  addressEnds z g d t = cond (cond (eqb d 0) (eqb t 1) (eqb z 1 || eqb g 7)) 12 54
+  moreDigits z g d t = cond (eqb d 0) (groupBegins z g) (groupGoesOn z g d t)
 
   abbrev pub inGroup : ℕ → ℕ → ℕ → ℕ → ℕ
   inGroup z g d t =

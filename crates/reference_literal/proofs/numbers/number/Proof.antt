@@ -1,8 +1,5 @@
--- The list of the definition, by tests of t. Assumes nothing.
-use mathlib.Core.Path.{sym}
+-- The tests are those of the definition, in its order. Assumes nothing.
 use borrow.Author.Needs.{needs}
-use Rattle.reference_sets.specs.Sets.{of}
-use Rattle.reference_literal.proofs.Digits.{number-cases}
 use Rattle.reference_literal.proofs.numbers.number.Statement.{statement}
 use Rattle.reference_literal.proofs.numbers.number.Tie as tie
 
@@ -30,7 +27,6 @@ returns c =
       c .before .before .before .first-digit .ensures,
       c .before .before .before .before .is-digit .ensures,
     )
-    (sym (number-cases (of (c .before .before .before .before .before .args .c)) (c .before .before .before .before .before .args .t)))
 
 pub number-spec : {M : Type 1} → statement M
 number-spec =
