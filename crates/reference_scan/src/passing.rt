@@ -12,6 +12,12 @@ use crate::blocks::all_common;
 use crate::blocks::count_common;
 use octets::bits::in_bits;
 use octets::sets::is_hex;
+use reference_sets::sets::PATH_HIGH;
+use reference_sets::sets::PATH_LOW;
+use reference_sets::sets::PLAIN_HIGH;
+use reference_sets::sets::PLAIN_LOW;
+use reference_sets::sets::SCHEME_HIGH;
+use reference_sets::sets::SCHEME_LOW;
 
 // Past a run of octets of a set, which is held as bits.
 fn past_set(s: &[u8], from: usize, low: u64, high: u64) -> usize
@@ -37,7 +43,7 @@ fn past_path(s: &[u8], from: usize) -> usize
     if 16 <= s.len() - i {
         return i + count_common(s, i);
     }
-    past_set(s, i, 0xafff_ffd2_0000_0000, 0x47ff_fffe_87ff_ffff)
+    past_set(s, i, PATH_LOW, PATH_HIGH)
 }
 
 // Whether a triple stands here, in a path, a query or a fragment.
@@ -73,16 +79,16 @@ pub fn past_run(s: &[u8], i: usize, q: usize) -> usize
         return past_units(s, i, q);
     }
     if (q == 6) | (q == 10) {
-        return past_set(s, i, 0x2bff_7fd2_0000_0000, 0x47ff_fffe_87ff_fffe);
+        return past_set(s, i, PLAIN_LOW, PLAIN_HIGH);
     }
     if (q == 7) | (q == 11) {
         return past_set(s, i, 0x03ff_0000_0000_0000, 0);
     }
     if q == 1 {
-        return past_set(s, i, 0x03ff_6800_0000_0000, 0x07ff_fffe_07ff_fffe);
+        return past_set(s, i, SCHEME_LOW, SCHEME_HIGH);
     }
     if q == 2 {
-        return past_set(s, i, 0x2bff_7fd2_0000_0000, 0x47ff_fffe_87ff_ffff);
+        return past_set(s, i, PLAIN_LOW, PATH_HIGH);
     }
     i
 }

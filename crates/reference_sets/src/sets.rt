@@ -5,6 +5,19 @@ ghost use Rattle.reference_steps.specs.Machine.{plain, inScheme};
 ghost use Rattle.reference_sets.specs.Sets.{of, isPath};
 use octets::bits::in_bits;
 
+// The bits of the sets: LOW of the octets below 64, HIGH of those from 64 to 127.
+pub const PLAIN_LOW: u64 = 0x2bff_7fd2_0000_0000;
+
+pub const PLAIN_HIGH: u64 = 0x47ff_fffe_87ff_fffe;
+
+pub const PATH_LOW: u64 = 0xafff_ffd2_0000_0000;
+
+pub const PATH_HIGH: u64 = 0x47ff_fffe_87ff_ffff;
+
+pub const SCHEME_LOW: u64 = 0x03ff_6800_0000_0000;
+
+pub const SCHEME_HIGH: u64 = 0x07ff_fffe_07ff_fffe;
+
 pub fn is_digit(c: u8) -> bool
     ensures { λ r. ⌜ r ≡ has DIGIT c ⌝ }
 {
@@ -21,18 +34,18 @@ pub fn is_alpha(c: u8) -> bool
 pub fn is_plain(c: u8) -> bool
     ensures { λ r. ⌜ r ≡ plain (of c) ⌝ }
 {
-    in_bits(0x2bff_7fd2_0000_0000, 0x47ff_fffe_87ff_fffe, c)
+    in_bits(PLAIN_LOW, PLAIN_HIGH, c)
 }
 
 // An octet of a path or a query, and so of a fragment.
 pub fn is_path(c: u8) -> bool
     ensures { λ r. ⌜ r ≡ isPath c ⌝ }
 {
-    in_bits(0xafff_ffd2_0000_0000, 0x47ff_fffe_87ff_ffff, c)
+    in_bits(PATH_LOW, PATH_HIGH, c)
 }
 
 pub fn is_scheme(c: u8) -> bool
     ensures { λ r. ⌜ r ≡ inScheme (of c) ⌝ }
 {
-    in_bits(0x03ff_6800_0000_0000, 0x07ff_fffe_07ff_fffe, c)
+    in_bits(SCHEME_LOW, SCHEME_HIGH, c)
 }
