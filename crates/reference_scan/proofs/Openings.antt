@@ -2,15 +2,21 @@
 use Prim.Native.Nat.{ℕ, _+_, _≤_, _<_}
 use native.Mathlib.Omega.{arith}
 use mathlib.Core.Path.{_≡_, refl, sym, ap, _∙_}
-use mathlib.Core.Bool.{true, _&&_}
+use mathlib.Core.Bool.{true, false, not, _&&_}
 use mathlib.Core.List.{List}
 use lib.Dec.{eqb}
 use lib.ListN.{length, getD}
-use borrow.Author.Tests.{eqb-true}
+use borrow.Author.Tests.{eqb-true, not-true}
 use Rattle.octets.proofs.Octets.{both}
 use Rattle.reference_steps.specs.Machine.{step}
+use Rattle.reference_sets.specs.Sets.{isPath}
 use Rattle.reference_scan.specs.Comes.{Comes}
 use Rattle.reference_scan.proofs.Between.{comes-step, comes-then}
+
+-- behind a slash no other one
+path-step : (c : ℕ) → isPath c ≡ true → eqb c 47 ≡ false → step 4 c ≡ 13
+unfolding step
+path-step c h n = rw (h, n)
 
 module _ (s : List ℕ) where
   -- the octet c at a
@@ -44,6 +50,16 @@ module _ (s : List ℕ) where
         (octet i (i + 1) 1 3 58 (omega arith) (omega arith) (eqb-true (getD s i 0) 58 (b .0)) refl (λ e. omega arith))
         (comes-then (octet (i + 1) (i + 2) 3 4 47 (omega arith) (omega arith) (eqb-true (at 1) 47 (b .1)) refl (λ e. omega arith))
         (octet (i + 2) (i + 3) 4 5 47 (omega arith) (omega arith) (eqb-true (at 2) 47 (c .1)) refl (λ e. omega arith)))
+
+    -- a slash, and an octet of a path that is none
+    pub root : i + 2 ≤ length s → (eqb (getD s i 0) 47 && not (eqb (at 1) 47) && isPath (at 1)) ≡ true → Comes s i 0 (i + 2) 13
+    unfolding step
+    root h e =
+        let c = both _ (isPath (at 1)) e in
+        let b = both (eqb (getD s i 0) 47) (not (eqb (at 1) 47)) (c .0) in
+        comes-then
+        (octet i (i + 1) 0 4 47 (omega arith) (omega arith) (eqb-true (getD s i 0) 47 (b .0)) refl (λ e. omega arith))
+        (octet (i + 1) (i + 2) 4 13 (at 1) (omega arith) (omega arith) refl (path-step (at 1) (c .1) (not-true (eqb (at 1) 47) (b .1))) (λ e. omega arith))
 
     -- `http` and what follows it
     pub plainly : Comes s i 0 (i + 4) 1 → Comes s (i + 4) 1 (i + 4 + 3) 5 → Comes s i 0 (i + 7) 5

@@ -1,5 +1,5 @@
-// How most references with an authority begin: `https://` or `http://`, and behind it a block of 16 octets that holds the host and,
-// mostly, where its path begins.
+// How most references begin: with a slash and a path, or with `https://` or `http://` and behind it a block of 16 octets that holds the
+// host and, mostly, where its path begins.
 ghost use mathlib.Core.Path.{_≡_};
 ghost use mathlib.Core.Bool.{true};
 ghost use Prim.Native.Nat.{_+_, _≤_};
@@ -8,6 +8,7 @@ ghost use Rattle.reference_scan.specs.Common.{isHosted};
 ghost use Rattle.reference_scan.specs.Comes.{Comes};
 use crate::Judged;
 use crate::judged_up_to;
+use reference_sets::sets::is_path;
 
 fn sees_http(s: &[u8], i: usize) -> bool
     requires { ⌜ i + 4 ≤ length (now s) ⌝ }
@@ -43,13 +44,28 @@ fn opening(s: &[u8], i: usize) -> usize
     0
 }
 
-// Past the scheme and the slashes behind it, if a reference begins here with one of the two.
+// Whether a path begins here with its slash, and no authority.
+fn sees_root(s: &[u8], i: usize) -> bool
+    requires { ⌜ i ≤ length (now s) ⌝ }
+    ensures { λ r. ⌜ (r ≡ true → Comes (now (s .entry)) i 0 (i + 2) 13) ⌝ }
+{
+    if s.len() - i < 2 {
+        return false;
+    }
+    let c = s[i + 1];
+    (s[i] == b'/') & (c != b'/') & is_path(c)
+}
+
+// Past what begins a reference here, if that is one of these.
 pub fn past_opening(s: &[u8], i: usize, q: usize) -> Judged
     requires { ⌜ i ≤ length (now s) ⌝ }
     ensures { λ r. ⌜ Comes (now (s .entry)) i q (r .at .0) (r .state) ⌝ }
 {
     if q != 0 {
         return judged_up_to(i, q);
+    }
+    if sees_root(s, i) {
+        return judged_up_to(i + 2, 13);
     }
     if s.len() - i < 8 {
         return judged_up_to(i, q);

@@ -26,7 +26,7 @@ fn is_good_target(s: &[u8], target: Span) -> bool
 }
 
 // Whether each link's parameters begin where the former's end, the last link's end at the parameter count, and each target is good. The
-// parameters have a loop of their own, so that what each loop asks of octets stays in registers.
+// parameters have a loop of their own: one loop over both kept too little in registers.
 fn are_linked(text: &[u8], links: &[usize], counts: Counts) -> bool
     requires { ⌜ counts .links ≤ linkRoom (now links) ⌝ }
     ensures { λ r. ⌜ Decides r (Linked (now (text .entry)) (now (links .entry)) (counts .links) (counts .params)) ⌝ }
