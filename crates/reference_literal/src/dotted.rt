@@ -4,6 +4,7 @@ ghost use Prim.Native.Nat.{_≤_, _<_};
 ghost use Rattle.reference_steps.specs.Machine.{step, number, dotted, numberEnds, inDotted};
 ghost use Rattle.reference_sets.specs.Sets.{of};
 use crate::numbers::number;
+use reference_sets::picking::NOWHERE;
 use reference_sets::picking::pick;
 use reference_sets::sets::is_digit;
 
@@ -12,7 +13,7 @@ fn one_digit_more(n: usize, t: usize, c: u8) -> usize
     ensures { λ r. ⌜ r ≡ dotted n (number (of c) t) ⌝ }
 {
     let u = number(t, c);
-    pick(u == 0, 54, 60 + 6 * n + u)
+    pick(u == 0, NOWHERE, 60 + 6 * n + u)
 }
 
 // Behind a number.
@@ -23,7 +24,7 @@ fn number_ends(n: usize, c: u8) -> usize
     pick(
         (c == b'.') & (n < 3),
         60 + 6 * (n + 1),
-        pick((c == b']') & (n == 3), 12, 54),
+        pick((c == b']') & (n == 3), 12, NOWHERE),
     )
 }
 
@@ -34,7 +35,7 @@ fn dotted_at(n: usize, t: usize, c: u8) -> usize
     pick(
         is_digit(c),
         one_digit_more(n, t, c),
-        pick(t == 0, 54, number_ends(n, c)),
+        pick(t == 0, NOWHERE, number_ends(n, c)),
     )
 }
 

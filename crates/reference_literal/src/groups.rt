@@ -5,6 +5,7 @@ ghost use Rattle.reference_steps.specs.Machine.{step, grouped, fits4, groupBegi
 ghost use Rattle.reference_sets.specs.Sets.{of};
 ghost use Rattle.reference_literal.specs.Groups.{Grouped};
 use crate::numbers::number;
+use reference_sets::picking::NOWHERE;
 use reference_sets::picking::pick;
 
 fn state_at(z: usize, g: usize, d: usize, t: usize) -> usize
@@ -32,7 +33,7 @@ fn first_digit(z: usize, g: usize, c: u8) -> usize
     pick(
         g + z <= 7,
         state_at(z, g, 1, pick(dotted_may(z, g), number(0, c), 0)),
-        54,
+        NOWHERE,
     )
 }
 
@@ -43,7 +44,7 @@ fn later_digit(z: usize, g: usize, d: usize, t: usize, c: u8) -> usize
     pick(
         d < 4,
         state_at(z, g, d + 1, pick(t == 0, 0, number(t, c))),
-        54,
+        NOWHERE,
     )
 }
 
@@ -59,8 +60,8 @@ fn group_ends(z: usize, g: usize, d: usize, t: usize) -> usize
     requires { ⌜ Grouped z g d t ⌝ }
     ensures { λ r. ⌜ r ≡ groupEnds z g d t ⌝ }
 {
-    let elided = pick((t == 0) & (z == 0), state_at(1, g, 0, 1), 54);
-    let ended = pick(g + 1 + z <= 7, state_at(z, g + 1, 0, 0), 54);
+    let elided = pick((t == 0) & (z == 0), state_at(1, g, 0, 1), NOWHERE);
+    let ended = pick(g + 1 + z <= 7, state_at(z, g + 1, 0, 0), NOWHERE);
     pick(d == 0, elided, ended)
 }
 
@@ -69,9 +70,9 @@ fn address_ends(z: usize, g: usize, d: usize, t: usize) -> usize
     ensures { λ r. ⌜ r ≡ addressEnds z g d t ⌝ }
 {
     if d == 0 {
-        return pick(t == 1, 12, 54);
+        return pick(t == 1, 12, NOWHERE);
     }
-    pick((z == 1) | (g == 7), 12, 54)
+    pick((z == 1) | (g == 7), 12, NOWHERE)
 }
 
 fn group_at(z: usize, g: usize, d: usize, t: usize, c: u8) -> usize
@@ -87,7 +88,7 @@ fn group_at(z: usize, g: usize, d: usize, t: usize, c: u8) -> usize
     if c == b']' {
         return address_ends(z, g, d, t);
     }
-    pick((c == b'.') & (0 < d) & (0 < t), 66, 54)
+    pick((c == b'.') & (0 < d) & (0 < t), 66, NOWHERE)
 }
 
 pub fn in_group(q: usize, c: u8) -> usize

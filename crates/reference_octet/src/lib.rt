@@ -9,6 +9,7 @@ mod outer;
 use reference_literal::dotted::in_dotted;
 use reference_literal::groups::in_group;
 use reference_literal::literals::in_literal;
+use reference_sets::picking::NOWHERE;
 use reference_sets::picking::pick;
 
 // Behind a `%`: its first hex digit leads 16 further, and its second one back.
@@ -18,9 +19,9 @@ fn in_triple(q: usize, c: u8) -> usize
 {
     let hex = octets::sets::is_hex(c);
     if q < 32 {
-        return pick(hex, q + 16, 54);
+        return pick(hex, q + 16, NOWHERE);
     }
-    pick(hex, q - 32, 54)
+    pick(hex, q - 32, NOWHERE)
 }
 
 // The state behind the octet c in the state q.
@@ -42,7 +43,7 @@ pub fn next(q: usize, c: u8) -> usize
     if q < 580 {
         return in_group(q, c);
     }
-    54
+    NOWHERE
 }
 
 // Whether the text may end in this state.

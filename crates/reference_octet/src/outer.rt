@@ -3,6 +3,7 @@ ghost use mathlib.Core.Path.{_≡_};
 ghost use Prim.Native.Nat.{_≤_, _<_};
 ghost use Rattle.reference_steps.specs.Machine.{step, behindPath, pathOn, portOn, firstSegment, inPath, inAuthority, inHost};
 ghost use Rattle.reference_sets.specs.Sets.{of};
+use reference_sets::picking::NOWHERE;
 use reference_sets::picking::pick;
 use reference_sets::sets::is_alpha;
 use reference_sets::sets::is_digit;
@@ -13,7 +14,7 @@ use reference_sets::sets::is_scheme;
 fn behind_path(c: u8) -> usize
     ensures { λ r. ⌜ r ≡ behindPath (of c) ⌝ }
 {
-    pick(c == b'?', 13, pick(c == b'#', 15, 54))
+    pick(c == b'?', 13, pick(c == b'#', 15, NOWHERE))
 }
 
 // Behind an authority, and behind a first segment.
@@ -43,7 +44,11 @@ fn first_segment(c: u8) -> usize
 fn in_path(c: u8) -> usize
     ensures { λ r. ⌜ r ≡ inPath (of c) ⌝ }
 {
-    pick(is_path(c), 13, pick(c == b'%', 29, pick(c == b'#', 15, 54)))
+    pick(
+        is_path(c),
+        13,
+        pick(c == b'%', 29, pick(c == b'#', 15, NOWHERE)),
+    )
 }
 
 fn in_authority(c: u8) -> usize
@@ -91,14 +96,14 @@ fn in_user(c: u8) -> usize
     pick(
         is_plain(c) | (c == b':'),
         8,
-        pick(c == b'%', 24, pick(c == b'@', 9, 54)),
+        pick(c == b'%', 24, pick(c == b'@', 9, NOWHERE)),
     )
 }
 
 fn in_fragment(c: u8) -> usize
     ensures { λ r. ⌜ r ≡ step 15 c ⌝ }
 {
-    pick(is_path(c), 15, pick(c == b'%', 31, 54))
+    pick(is_path(c), 15, pick(c == b'%', 31, NOWHERE))
 }
 
 // Up to the slashes before an authority.
@@ -160,5 +165,5 @@ pub fn outer(q: usize, c: u8) -> usize
     if q == 15 {
         return in_fragment(c);
     }
-    54
+    NOWHERE
 }

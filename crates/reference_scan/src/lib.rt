@@ -8,6 +8,7 @@ ghost use Rattle.reference_scan.specs.Judges.{Judges};
 use kinds::Place;
 use kinds::Span;
 use reference_octet::accepts;
+use reference_sets::picking::NOWHERE;
 
 mod blocks;
 mod opening;
@@ -28,9 +29,6 @@ fn judged_up_to(i: usize, state: usize) -> Judged
         state,
     }
 }
-
-// The state that nothing follows.
-pub const NOWHERE: usize = 54;
 
 // From a place on in the state `state`, past all octets that the machine takes, up to the first that leads nowhere or the text's end.
 pub fn judge(s: &[u8], from: Place, state: usize) -> Judged

@@ -6,6 +6,7 @@ use crate::Judged;
 use crate::judged_up_to;
 use crate::passing::past_run;
 use reference_octet::next;
+use reference_sets::picking::NOWHERE;
 
 // No state takes a `>`, which ends most targets.
 pub fn walk(s: &[u8], from: usize, state: usize) -> Judged
@@ -24,7 +25,7 @@ pub fn walk(s: &[u8], from: usize, state: usize) -> Judged
             return judged_up_to(i, q);
         }
         let n = next(q, c);
-        if n == 54 {
+        if n == NOWHERE {
             return judged_up_to(i, q);
         }
         q = n;
