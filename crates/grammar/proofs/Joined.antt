@@ -4,13 +4,14 @@ use native.Mathlib.Omega.{arith}
 use native.Mathlib.Nat.{add-zero}
 use native.Mathlib.Numerals.{add-one}
 use mathlib.Core.Path.{_≡_, refl, sym, ap, subst, _∙_}
-use mathlib.Core.Bool.{Bool, true, false, cond, _&&_, _||_, false≢true}
+use mathlib.Core.Bool.{Bool, true, false, cond, _||_, false≢true}
 use mathlib.Core.List.{List, [], _∷_, _++_, map, reverse, append-nil, append-assoc, reverse-append}
 use mathlib.Core.Option.{Option, none, some}
 use lib.Dec.{eqb}
 use lib.ListN.{length, length-append}
 use borrow.Author.Tests.{eqb-true}
 use Rattle.octets.specs.Sets.{all, isBlank, isToken, isPlain, isEscapable, isTarget, isHex}
+use Rattle.octets.proofs.Octets.{both}
 use Rattle.grammar.specs.Link.{Link}
 use Rattle.grammar.specs.Grammar.{Extra, Admissible, Field}
 use Rattle.grammar.specs.Targets.{ReferenceAt, References}
@@ -43,10 +44,6 @@ use Rattle.grammar.proofs.TargetsHeld.{never}
 use Rattle.grammar.proofs.Closing.{settled}
 use Rattle.grammar.proofs.TargetsRaised.{each-second, targets-inside, references-lowered}
 use Rattle.grammar.proofs.Raise.{raiseLink, behind, behindIn, lift, run-lift, settle-lift, map-reverseAux}
-
-both-true : (a b : Bool) → (a && b) ≡ true → (a ≡ true) × (b ≡ true)
-both-true true b e = (refl, e)
-both-true false b e = absurd (false≢true e)
 
 module _ (extra : Extra) (apart : Admissible extra) where
   -- SP and HTAB change nothing of where the header may end
@@ -90,7 +87,7 @@ module _ (extra : Extra) (apart : Admissible extra) where
   blanks-run : (t : List ℕ) (st : State) (i : ℕ) → all isBlank t ≡ true → settle (run extra st i t) (i + length t) ≡ settle st i
   blanks-run [] st i b = ap (settle st) (add-zero i)
   blanks-run (c ∷ t) st i b =
-      let (x, y) = both-true (isBlank c) (all isBlank t) b in
+      let (x, y) = both (isBlank c) (all isBlank t) b in
       let moved : i + suc (length t) ≡ suc i + length t = omega arith in
       ap (settle (run extra (step extra st i c) (suc i) t)) moved
       ∙ blanks-run t (step extra st i c) (suc i) y
@@ -99,7 +96,7 @@ module _ (extra : Extra) (apart : Admissible extra) where
   pub gap-blanks : (t : List ℕ) (ls : List Link) (i : ℕ) → all isBlank t ≡ true → run extra (gap ls) i t ≡ gap ls
   gap-blanks [] ls i e = refl
   gap-blanks (c ∷ t) ls i e =
-      let (b, r) = both-true (isBlank c) (all isBlank t) e in
+      let (b, r) = both (isBlank c) (all isBlank t) e in
       rw b (gap-blanks t ls (suc i) r)
 
   -- where the header may end, a comma opens the next place of the list

@@ -3,7 +3,7 @@
 use Prim.Native.Nat.{ℕ, suc}
 use native.Mathlib.Omega.{arith}
 use mathlib.Core.Path.{_≡_, refl, ap}
-use mathlib.Core.Logic.{_⊎_, inl, inr, ⊎-map}
+use mathlib.Core.Logic.{⊎-map}
 use mathlib.Core.Bool.{Bool, true, false, cond, _&&_, _||_, not, false≢true}
 use mathlib.Core.List.{List, [], _∷_}
 use mathlib.Core.Option.{Option, none, some}
@@ -13,6 +13,7 @@ use borrow.Author.Tests.{leb-true, ltb-true, eqb-true, not-true}
 use Rattle.octets.specs.Editions.{further}
 use Rattle.octets.specs.declared.editions.Edition.{Edition}
 use Rattle.octets.proofs.Octets.{both}
+pub use Rattle.rules.proofs.Lefts.{either}
 use Rattle.grammar.specs.Link.{Link}
 use Rattle.grammar.specs.Targets.{ReferenceAt}
 use Rattle.grammar.specs.Place.{Malformed, MalformedAt}
@@ -89,10 +90,6 @@ unfit ed h k j =
     && areReferences h (closedIn (stateAt (further ed) h j))
 
 -- ---- what they show
-
-pub either : (a b : Bool) → (a || b) ≡ true → (a ≡ true) ⊎ (b ≡ true)
-either true b e = inl refl
-either false b e = inr e
 
 not-read : (ed : Edition) (h : List ℕ) → unread (read ed h) ≡ true → read ed h ≡ none
 not-read ed h e = go (read ed h) e

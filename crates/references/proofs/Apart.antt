@@ -2,7 +2,7 @@
 -- Assumes nothing.
 use Prim.Native.Nat.{ℕ}
 use mathlib.Core.Path.{_≡_, refl, _∙_}
-use mathlib.Core.Bool.{Bool, true, false, _||_}
+use mathlib.Core.Bool.{true}
 use mathlib.Core.List.{List, [], _∷_, _++_, append-assoc}
 use mathlib.Core.Logic.{_⊎_, inl, inr}
 use mathlib.Core.Option.{Option, none, some}
@@ -11,6 +11,7 @@ use lib.Dec.{eqb}
 use Rattle.octets.specs.Text.{octets}
 use Rattle.octets.specs.Sets.{oneOf}
 use Rattle.rules.specs.Rule.{Rule, no-more, and-one, Derives}
+use Rattle.rules.proofs.Lefts.{or-right}
 use Rattle.references.specs.Octets.{Octets, has}
 use Rattle.references.specs.AppendixA.{path-abempty, segment-nz-nc}
 use Rattle.references.specs.Components.{marked, DerivesPart, pathRule}
@@ -84,10 +85,6 @@ authority-follows none none w q f d =
     (not-behind (octets "//") (pathRule none none) w refl d)
 
 -- ---- no scheme
-
-or-right : (a b : Bool) → b ≡ true → (a || b) ≡ true
-or-right true b e = refl
-or-right false b e = e
 
 -- no colon comes before the first of `/?#`
 not-schemed : (u v : List ℕ) → Free (octets ":/?#") u → Stops (octets "/?#") v → FollowsScheme none (u ++ v)
