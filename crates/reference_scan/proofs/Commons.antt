@@ -5,21 +5,19 @@ use mathlib.Core.Path.{_≡_, refl}
 use mathlib.Core.Bool.{Bool, true, false, not, _||_}
 use lib.Dec.{eqb, ltb}
 use borrow.Author.Tests.{ltb-true, eqb-true}
-use Rattle.octets.specs.Sets.{between}
 use Rattle.octets.specs.Bits.{inBits}
-use Rattle.octets.proofs.Octets.{Octets, every, both, every-at, only-if, within, or-octets, between-octets, one-octets}
+use Rattle.octets.proofs.Octets.{every, both, every-at, only-if, within, or-octets, between-octets, one-octets}
+use Rattle.references.specs.Octets.{ALPHA}
+use Rattle.references.proofs.SetOctets.{has-octets}
 use Rattle.reference_steps.specs.Machine.{step}
 use Rattle.reference_sets.specs.Sets.{isPath}
 use Rattle.reference_scan.specs.Common.{isCommon}
 use Rattle.reference_scan.specs.Passed.{keeps}
 
-letter-octets : Octets (λ c. between 97 122 c || between 65 90 c)
-letter-octets = or-octets (between-octets 97 122 (omega arith)) (between-octets 65 90 (omega arith))
-
 pub common-path : (c : ℕ) → isCommon c ≡ true → isPath c ≡ true
 common-path =
     within isCommon isPath
-    (or-octets (or-octets letter-octets (between-octets 38 59 (omega arith)))
+    (or-octets (or-octets (has-octets ALPHA) (between-octets 38 59 (omega arith)))
     (or-octets
     (or-octets
     (or-octets (or-octets (one-octets 61 (omega arith)) (one-octets 63 (omega arith))) (one-octets 95 (omega arith)))

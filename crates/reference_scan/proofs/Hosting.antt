@@ -9,6 +9,8 @@ use lib.ListN.{length, getD}
 use lib.Seq.{slice}
 use borrow.Author.Tests.{eqb-true}
 use Rattle.octets.proofs.Octets.{Octets, within, or-octets, between-octets, one-octets}
+use Rattle.references.specs.Octets.{ALPHA}
+use Rattle.references.proofs.SetOctets.{has-octets}
 use Rattle.reference_steps.specs.Machine.{step, run}
 use Rattle.reference_scan.specs.Common.{isHosted}
 use Rattle.reference_scan.specs.Comes.{Comes}
@@ -27,8 +29,7 @@ hosted-octets =
     or-octets
     (or-octets
     (or-octets
-    (or-octets (or-octets (between-octets 97 122 (omega arith)) (between-octets 65 90 (omega arith)))
-    (between-octets 38 57 (omega arith)))
+    (or-octets (has-octets ALPHA) (between-octets 38 57 (omega arith)))
     (one-octets 61 (omega arith)))
     (one-octets 63 (omega arith)))
     (one-octets 95 (omega arith))

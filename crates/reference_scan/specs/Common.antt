@@ -3,9 +3,7 @@ use Prim.Native.Nat.{ℕ}
 use mathlib.Core.Bool.{Bool, _||_}
 use lib.Dec.{eqb}
 use Rattle.octets.specs.Sets.{between}
-
-abbrev letter : ℕ → Bool
-letter c = between 97 122 c || between 65 90 c
+use Rattle.references.specs.Octets.{letter}
 
 -- of a path or a query: all but `!` and `$`
 abbrev pub isCommon : ℕ → Bool

@@ -11,7 +11,7 @@ ghost use Rattle.reference_scan.specs.Passed.{Passed};
 fn is_common(c: u8) -> bool
     ensures { λ r. ⌜ r ≡ isCommon c ⌝ }
 {
-    let letter = ((b'a' <= c) & (c <= b'z')) | ((b'A' <= c) & (c <= b'Z'));
+    let letter = ((b'A' <= c) & (c <= b'Z')) | ((b'a' <= c) & (c <= b'z'));
     let other = (c == b'=') | (c == b'?') | (c == b'_') | (c == b'@') | (c == b'~');
     letter | ((b'&' <= c) & (c <= b';')) | other
 }

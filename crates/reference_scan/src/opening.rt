@@ -81,7 +81,7 @@ pub fn past_opening(s: &[u8], i: usize, q: usize) -> Judged
 fn is_hosted(c: u8) -> bool
     ensures { λ r. ⌜ r ≡ isHosted c ⌝ }
 {
-    let letter = ((b'a' <= c) & (c <= b'z')) | ((b'A' <= c) & (c <= b'Z'));
+    let letter = ((b'A' <= c) & (c <= b'Z')) | ((b'a' <= c) & (c <= b'z'));
     letter | ((b'&' <= c) & (c <= b'9')) | (c == b'=') | (c == b'?') | (c == b'_')
 }
 
