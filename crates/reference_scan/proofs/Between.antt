@@ -77,7 +77,7 @@ module _ {s : List ℕ} where
       }
 
   -- judged to its end
-  pub judged-here : {a q e p : ℕ} (r : Judged) → (r .at .0 ≡ e) × (r .state ≡ p) → Comes s a q e p →
+  pub judged-here : {a q e p : ℕ} (r : Judged) → (r .at .at .0 ≡ e) × (r .state ≡ p) → Comes s a q e p →
       (e < length s → step p (getD s e 0) ≡ 54) → Judges s a q r
   judged-here r w x h =
       record {
@@ -88,7 +88,7 @@ module _ {s : List ℕ} where
         lives = rw (w .1) (x .lives);
       }
 
-  pub comes-here : {a q e p : ℕ} (r : Judged) → (r .at .0 ≡ e) × (r .state ≡ p) → Comes s a q e p → Comes s a q (r .at .0) (r .state)
+  pub comes-here : {a q e p : ℕ} (r : Judged) → (r .at .at .0 ≡ e) × (r .state ≡ p) → Comes s a q e p → Comes s a q (r .at .at .0) (r .state)
   comes-here r w x = rw (w .0, w .1) x
 
   -- and from there judged on

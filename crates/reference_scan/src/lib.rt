@@ -5,6 +5,7 @@ ghost use lib.ListN.{length};
 ghost use lib.Seq.{slice};
 ghost use Rattle.reference_steps.specs.Machine.{run, accepts};
 ghost use Rattle.reference_scan.specs.Judges.{Judges};
+use cursor::Cursor;
 use kinds::Place;
 use kinds::Span;
 use reference_octet::accepts;
@@ -15,30 +16,28 @@ mod opening;
 mod passing;
 mod walking;
 
-// The place where the judging stopped, and the state there.
+// The cursor behind what was judged, and the state there.
 pub struct Judged {
-    pub at: Place,
+    pub at: Cursor,
     pub state: usize,
 }
 
 fn judged_up_to(i: usize, state: usize) -> Judged
-    ensures { λ r. ⌜ (r .at .0 ≡ i) × (r .state ≡ state) ⌝ }
+    ensures { λ r. ⌜ (r .at .at .0 ≡ i) × (r .state ≡ state) ⌝ }
 {
-    Judged {
-        at: Place(i),
-        state,
-    }
+    let at = Cursor { at: Place(i) };
+    Judged { at, state }
 }
 
-// From a place on in the state `state`, past all octets that the machine takes, up to the first that leads nowhere or the text's end.
-pub fn judge(s: &[u8], from: Place, state: usize) -> Judged
-    requires { ⌜ from .0 ≤ length (now s) ⌝ }
-    ensures { λ r. ⌜ Judges (now (s .entry)) (from .0) state r ⌝ }
+// On in the state `state`, past all octets that the machine takes, up to the first that leads nowhere or the text's end.
+pub fn judge(s: &[u8], from: Cursor, state: usize) -> Judged
+    requires { ⌜ from .at .0 ≤ length (now s) ⌝ }
+    ensures { λ r. ⌜ Judges (now (s .entry)) (from .at .0) state r ⌝ }
 {
-    let i = from.0;
+    let i = from.at.0;
     let opened = opening::past_opening(s, i, state);
-    let begun = opening::past_first_block(s, opened.at.0, opened.state);
-    walking::walk(s, begun.at.0, begun.state)
+    let begun = opening::past_first_block(s, opened.at.at.0, opened.state);
+    walking::walk(s, begun.at.at.0, begun.state)
 }
 
 // The state behind a part of the text.
@@ -48,8 +47,8 @@ pub fn run_over(s: &[u8], part: Span, state: usize) -> usize
 {
     let from = part.from;
     let to = part.to.0;
-    let j = judge(&s[..to], from, state);
-    if j.at.0 < to {
+    let j = judge(&s[..to], Cursor { at: from }, state);
+    if j.at.at.0 < to {
         return NOWHERE;
     }
     j.state

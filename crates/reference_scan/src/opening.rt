@@ -59,7 +59,7 @@ fn sees_root(s: &[u8], i: usize) -> bool
 // Past what begins a reference here, if that is one of these.
 pub fn past_opening(s: &[u8], i: usize, q: usize) -> Judged
     requires { ⌜ i ≤ length (now s) ⌝ }
-    ensures { λ r. ⌜ Comes (now (s .entry)) i q (r .at .0) (r .state) ⌝ }
+    ensures { λ r. ⌜ Comes (now (s .entry)) i q (r .at .at .0) (r .state) ⌝ }
 {
     if q != 0 {
         return judged_up_to(i, q);
@@ -109,7 +109,7 @@ fn state_behind(s: &[u8], at: usize) -> usize
 // Past a block behind the slashes, if it holds nothing but octets of a host and of a path.
 pub fn past_first_block(s: &[u8], i: usize, q: usize) -> Judged
     requires { ⌜ i ≤ length (now s) ⌝ }
-    ensures { λ r. ⌜ Comes (now (s .entry)) i q (r .at .0) (r .state) ⌝ }
+    ensures { λ r. ⌜ Comes (now (s .entry)) i q (r .at .at .0) (r .state) ⌝ }
 {
     if q != 5 {
         return judged_up_to(i, q);

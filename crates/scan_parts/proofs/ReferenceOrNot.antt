@@ -47,49 +47,49 @@ closed-bad s {a} {d} t q n extra ls p refs =
     }
 
 module _ {s : List ℕ} {a : ℕ} {r : Judged} (j : Judges s a 0 r) where
-  pub is-reference : {c : Cursor} → c .at .0 ≡ r .at .0 → accepts (r .state) ≡ true → At s (c .at .0) 62 → ReferenceScanned s a (Past c)
+  pub is-reference : {c : Cursor} → c .at .0 ≡ r .at .at .0 → accepts (r .state) ≡ true → At s (c .at .0) 62 → ReferenceScanned s a (Past c)
   is-reference {c} e y q =
-      let reference : ReferenceAt s a (r .at .0) =
-      steps-exact .reference (slice a (r .at .0) s) (ap accepts (sym (j .state)) ∙ y)
+      let reference : ReferenceAt s a (r .at .at .0) =
+      steps-exact .reference (slice a (r .at .at .0) s) (ap accepts (sym (j .state)) ∙ y)
       in
-      a-reference (subst (Target s a) (sym e) (reference-target s a (r .at .0) (j .forward) (j .inside) reference))
+      a-reference (subst (Target s a) (sym e) (reference-target s a (r .at .at .0) (j .forward) (j .inside) reference))
       (subst (ReferenceAt s a) (sym e) reference) q
 
   -- where the target ends at d, the judging tells
-  tells : {d : ℕ} → At s d 62 → a ≤ d → (r .at .0 ≡ d → accepts (r .state) ≡ true → ⊥) → ReferenceAt s a d → ⊥
-  tells {d} q l n ref = go (decLt (r .at .0) d) (decLt d (r .at .0))
+  tells : {d : ℕ} → At s d 62 → a ≤ d → (r .at .at .0 ≡ d → accepts (r .state) ≡ true → ⊥) → ReferenceAt s a d → ⊥
+  tells {d} q l n ref = go (decLt (r .at .at .0) d) (decLt d (r .at .at .0))
     where
       k : ℕ
-      k = r .at .0
+      k = r .at .at .0
 
       yes-by-run : accepts (run 0 (slice a d s)) ≡ true
       yes-by-run = steps-exact .accepted (slice a d s) ref
 
-      go : Dec (r .at .0 < d) → Dec (d < r .at .0) → ⊥
+      go : Dec (r .at .at .0 < d) → Dec (d < r .at .at .0) → ⊥
       go (yes m) w =
           let dead : run 0 (slice a d s) ≡ 54 =
-          run-parts s (r .at .0 - a) 0 a (r .at .0) d (omega (arith, j .forward)) (omega arith) (omega (arith, q .inside))
-          ∙ ap (λ (x : ℕ). run x (slice (r .at .0) d s)) (sym (j .state))
-          ∙ run-cons s (r .state) (r .at .0) d m (omega (arith, q .inside))
-          ∙ ap (λ (x : ℕ). run x (slice (suc (r .at .0)) d s)) (j .stops (omega (arith, q .inside)))
-          ∙ nowhere (slice (suc (r .at .0)) d s)
+          run-parts s (r .at .at .0 - a) 0 a (r .at .at .0) d (omega (arith, j .forward)) (omega arith) (omega (arith, q .inside))
+          ∙ ap (λ (x : ℕ). run x (slice (r .at .at .0) d s)) (sym (j .state))
+          ∙ run-cons s (r .state) (r .at .at .0) d m (omega (arith, q .inside))
+          ∙ ap (λ (x : ℕ). run x (slice (suc (r .at .at .0)) d s)) (j .stops (omega (arith, q .inside)))
+          ∙ nowhere (slice (suc (r .at .at .0)) d s)
           in
           false≢true (sym (ap accepts dead) ∙ yes-by-run)
       go (no m) (yes w) =
-          let dead : run 0 (slice a (r .at .0) s) ≡ 54 =
-          run-parts s (d - a) 0 a d (r .at .0) (omega arith) (omega arith) (j .inside)
-          ∙ run-cons s (run 0 (slice a d s)) d (r .at .0) w (j .inside)
-          ∙ ap (λ (x : ℕ). run x (slice (suc d) (r .at .0) s))
+          let dead : run 0 (slice a (r .at .at .0) s) ≡ 54 =
+          run-parts s (d - a) 0 a d (r .at .at .0) (omega arith) (omega arith) (j .inside)
+          ∙ run-cons s (run 0 (slice a d s)) d (r .at .at .0) w (j .inside)
+          ∙ ap (λ (x : ℕ). run x (slice (suc d) (r .at .at .0) s))
           (ap (step (run 0 (slice a d s))) (q .is) ∙ closes (run 0 (slice a d s)))
-          ∙ nowhere (slice (suc d) (r .at .0) s)
+          ∙ nowhere (slice (suc d) (r .at .at .0) s)
           in
           j .lives (λ z. omega arith) (j .state ∙ dead)
       go (no m) (no w) =
-          let e : r .at .0 ≡ d = omega arith in
+          let e : r .at .at .0 ≡ d = omega arith in
           n e (ap accepts (j .state ∙ ap (λ (i : ℕ). run 0 (slice a i s)) e) ∙ yes-by-run)
 
   pub closed-all-the-same : {d : Cursor} {u : Scan} → TargetScanned s a u → u ≡ Past d
-      → (At s (r .at .0) 62 → accepts (r .state) ≡ true → ⊥) → ReferenceScanned s a (Stuck (record { 0 = a }))
+      → (At s (r .at .at .0) 62 → accepts (r .state) ≡ true → ⊥) → ReferenceScanned s a (Stuck (record { 0 = a }))
   closed-all-the-same {d} {u} t e n = go (subst (TargetScanned s a) e t)
     where
       go : {d : Cursor} → TargetScanned s a (Past d) → ReferenceScanned s a (Stuck (record { 0 = a }))

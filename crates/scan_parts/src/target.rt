@@ -62,9 +62,8 @@ pub fn past_target(s: &[u8], from: Cursor) -> Scan
     ensures { λ r. ⌜ ReferenceScanned (now (s .entry)) (from .at .0) r ⌝ }
 {
     let start = from.at;
-    let judged = judge(s, start, 0);
-    let end = judged.at;
-    let c = Cursor { at: end };
+    let judged = judge(s, from, 0);
+    let c = judged.at;
     if accepts(judged.state) && c.sees(s, b'>') {
         return Scan::Past(c);
     }
