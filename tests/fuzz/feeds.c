@@ -4,9 +4,9 @@
 #include "capstan.h"
 #include "lent.h"
 
-enum { LIMIT = CAPSTAN_LIMIT, MOST = LIMIT + 64, LINKS = LIMIT / 2, PARAMS = LIMIT / 2, COUNTERS = 512 };
+enum { LIMIT = CAPSTAN_LIMIT, MOST = LIMIT + 64, LINKS = LIMIT / 2, PARAMS = LIMIT / 2, COUNTERS = 640 };
 
-__attribute__((section("__libfuzzer_extra_counters"))) static uint8_t counters[3 * COUNTERS];
+__attribute__((section("__libfuzzer_extra_counters"))) static uint8_t counters[4 * COUNTERS];
 
 static void seen(size_t kind, size_t what) {
   if (what < COUNTERS) counters[kind * COUNTERS + what] = 1;
@@ -54,7 +54,28 @@ typedef struct {
 static int known(size_t edition) { return edition == CAPSTAN_RFC8288 || edition == CAPSTAN_RFC5988; }
 
 static int same_state(capstan_feeding a, capstan_feeding b) {
-  return a.edition == b.edition && a.phase == b.phase && a.total == b.total && a.place == b.place;
+  return a.edition == b.edition && a.phase == b.phase && a.total == b.total && a.place == b.place && a.target == b.target &&
+         a.judged == b.judged;
+}
+
+/* Of any state: a feed that is done counts its octets, and finds nothing wrong; a refused one leaves all else as it was. */
+static void next_law(capstan_feeding state, capstan_feed_answer a, size_t length) {
+  capstan_feeding due = a.number == 0 ? a.next : state;
+  due.edition = state.edition;
+  if (a.number == 0 || a.number == 2) due.total = state.total + length;
+  if (a.number == 0) due.place = due.total;
+  if (a.number == 1) due.total = LIMIT + 1;
+  if (a.number == 2) due.place = a.place;
+  MUST(same_state(a.next, due));
+}
+
+/* Of any state: the place is the one that it remembers, or else lies in the part, or is the start of the target that is open, which lies
+   nowhere behind the octets that counted. */
+static void place_law(capstan_feeding state, size_t place, size_t length) {
+  size_t start = state.target < state.total ? state.target : state.total;
+  int in_part = place >= state.total && place - state.total < length;
+  int open = state.phase >= 1 && state.phase <= 3 && length > 0;
+  MUST(state.place < state.total ? place == state.place : in_part || (open && place == start));
 }
 
 /* Feeds with so many octets of the buffer; the part is lent anew. The buffer is looked at by the caller. */
@@ -68,9 +89,8 @@ static capstan_feed_answer feed(feeding *f, const uint8_t *part, size_t length, 
   MUST((a.number == 10) == !known(f->state.edition));
   MUST((a.number == 7) == (known(f->state.edition) && buffer_len < LIMIT));
   MUST(a.number == 2 || a.place == 0);
-  if (a.number >= 7) MUST(same_state(a.next, f->state));
-  MUST(a.next.edition == f->state.edition);
-  if (a.number != 0) MUST(a.next.phase == f->state.phase);
+  if (a.number == 2) place_law(f->state, a.place, length);
+  next_law(f->state, a, length);
   f->state = a.next;
   return a;
 }
@@ -136,14 +156,26 @@ static void no_room_law(feeding *f, const uint8_t *part, size_t length, size_t s
   give_tables_back();
 }
 
+/* Of octets with nothing wrong: the state names the start of the target that is open, if one is, and is the same wherever they were
+   cut. */
+static void state_law(capstan_feeding state, const uint8_t *header, size_t length) {
+  static uint8_t buffer[LIMIT];
+  size_t target = state.target;
+  MUST(target <= length && (target > 0 || state.judged == 0));
+  if (target > 0) MUST(header[target - 1] == '<' && memchr(header + target, '>', length - target) == NULL);
+  MUST(same_state(state, capstan_feed(capstan_start(state.edition), header, length, buffer, LIMIT).next));
+}
+
 /* Feeds the octets from the start up to the end of a part. */
 static void feed_law(feeding *f, const uint8_t *header, size_t start, size_t end) {
   capstan_feed_answer e = expected(f->state.edition, header, end), a = feed(f, header + start, end - start, f->buffer_len);
   MUST(a.number == e.number && a.place == e.place);
   if (a.number == 0) memcpy(f->model + start, header + start, end - start);
+  if (a.number == 0) state_law(a.next, header, end);
   MUST(memcmp(f->buffer, f->model, f->buffer_len) == 0);
   seen(0, a.place);
   seen(1, (16 * a.next.phase + a.number) * 2 + a.next.edition % 2);
+  seen(3, a.next.judged);
 }
 
 /* Each octet that says how is one part: how long it is, and what is called before it. */
@@ -164,7 +196,8 @@ static void cut_law(feeding *f, octets how, const uint8_t *header, size_t length
 
 static size_t any_number(octets *how) {
   size_t said = take(how);
-  if (said < 64) return said % 16;
+  if (said < 32) return said % 16;
+  if (said < 64) return 32 * (said % 32) + take(how) % 32;
   if (said < 128) return LIMIT - 32 + said % 64;
   if (said < 192) return SIZE_MAX - said % 64;
   return SIZE_MAX / 256 * take(how) + said % 64;
@@ -177,6 +210,7 @@ static void wild_law(feeding *f, octets how, const uint8_t *header, size_t lengt
   memcpy(f->model, header, fill);
   if (take(&how) % 8 == 0) f->state.edition = any_number(&how);
   f->state.phase = any_number(&how), f->state.total = any_number(&how), f->state.place = any_number(&how);
+  f->state.target = any_number(&how), f->state.judged = any_number(&how);
   for (int times = 0; times < 3; times++) {
     size_t total = f->state.total, part = take(&how), buffer_len = take(&how) % 8 == 0 ? LIMIT - 1 : f->buffer_len;
     if (part > length || part == 255) part = length;

@@ -1,10 +1,11 @@
 /* A libFuzzer target: headers read, written, read back and joined, in each edition, held to the laws, also to those between the
-   editions; unknown editions; codes of names, and texts compared. It needs no second reader. The library has no instrumentation; what
-   guides the fuzzer are the answers: a malformed header's place that grows, counts that are new. README.md says how to run it. */
+   editions; unknown editions; codes of names, and texts compared. It needs no second reader, and doesn't say itself what a reference
+   is. The library has no instrumentation; what guides the fuzzer are the answers: a malformed header's place that grows, counts that are
+   new. README.md says how to run it. */
 #include "capstan.h"
 #include "lent.h"
 
-enum { LIMIT = 8192, LINKS = LIMIT / 2, PARAMS = LIMIT / 2, COUNTERS = 4096, KINDS = 7 };
+enum { LIMIT = 8192, LINKS = LIMIT / 2, PARAMS = LIMIT / 2, COUNTERS = 4096, KINDS = 8 };
 
 __attribute__((section("__libfuzzer_extra_counters"))) static uint8_t counters[2 * KINDS * COUNTERS];
 
@@ -46,28 +47,68 @@ static reading read_amply(const uint8_t *header, size_t length) {
   return read_in(header, length, (most + 1) / 3, most / 2);
 }
 
-/* Whether some header begins with these octets: what is open in such a beginning is closed by one of a few ends. */
+/* The number of the table's check: nothing has the empty relation. */
+static size_t judged(size_t in, reading r) {
+  static const uint8_t none;
+  capstan_search_answer s = capstan_search(in, r.text, r.length, r.links, r.link_slots, r.params, r.param_slots, r.answer.links,
+                                           r.answer.params, &none, 0);
+  MUST(s.link == 0);
+  return s.number;
+}
+
+/* Whether the octets are refused for a target that is open in the first of them, and that their last octet closes. */
+static int closes_unfit(const uint8_t *header, size_t open, size_t length) {
+  capstan_read_answer a = read_amply(header, length).answer;
+  if (a.number != 2 || a.place == 0 || a.place > open || open == length || header[a.place - 1] != '<') return 0;
+  return memchr(header + a.place, '>', length - a.place) == header + length - 1;
+}
+
+/* Whether some header begins with these octets, where a target needn't be a reference: nothing is wrong before their end, and what is
+   open there is closed by one of a few ends, if only to a target that is none. */
 static int begins_a_header(const uint8_t *header, size_t length) {
   static const char *const ends[] = {"", ">", "0>", "00>", "x", "\"", "x\""};
   static uint8_t whole[LIMIT];
+  capstan_read_answer open = read_amply(header, length).answer;
+  if (open.number == 2 && open.place != length) return 0;
   if (length + 3 > LIMIT) return 1;
   memcpy(whole, header, length);
   for (size_t i = 0; i < sizeof ends / sizeof *ends; i++) {
     size_t more = strlen(ends[i]);
     memcpy(whole + length, ends[i], more);
-    if (read_amply(whole, length + more).answer.number == 0) return 1;
+    if (read_amply(whole, length + more).answer.number == 0 || closes_unfit(whole, length, length + more)) return 1;
   }
   return 0;
 }
 
-/* The octets up to the place begin a header, and with one more they don't. */
+/* The place is where a target starts that is closed and no reference. As long as it is open, the octets are only cut short. Alone in a
+   header it is refused too, and a table with it is bad, where one with an empty target is good. */
+static void unfit_law(const uint8_t *header, size_t length, size_t place) {
+  const uint8_t *close = memchr(header + place, '>', length - place);
+  MUST(place > 0 && header[place - 1] == '<' && close != NULL);
+  size_t end = close - header;
+  capstan_read_answer closed = read_amply(header, end + 1).answer, alone = read_amply(header + place - 1, end - place + 2).answer;
+  MUST(closed.number == 2 && closed.place == place && alone.number == 2 && alone.place == 1);
+  reading r = read_amply(header, end);
+  MUST(r.answer.number == 2 && r.answer.place == end);
+  r.answer.links = 1;
+  r.links[0] = place, r.links[1] = end, r.links[2] = r.links[3] = 0;
+  MUST(judged(CAPSTAN_RFC8288, r) == CAPSTAN_BAD_TABLE && judged(CAPSTAN_RFC5988, r) == CAPSTAN_BAD_TABLE);
+  r.links[0] = end;
+  MUST(judged(CAPSTAN_RFC8288, r) == CAPSTAN_NOT_FOUND && judged(CAPSTAN_RFC5988, r) == CAPSTAN_NOT_FOUND);
+  seen(7, place);
+}
+
+/* Whether a malformed header has its place at such a target: anywhere else one octet more is already wrong. */
+static int is_unfit_at(const uint8_t *header, size_t length, size_t place) {
+  return place < length && read_amply(header, place + 1).answer.place != place;
+}
+
+/* The octets up to the place begin a header. With one more they don't, or a target starts there that is no reference. */
 static void place_law(const uint8_t *header, size_t length, size_t place) {
   MUST(place <= length);
   MUST(begins_a_header(header, place));
-  if (place < length) {
-    reading more = read_amply(header, place + 1);
-    MUST(more.answer.number == 2 && more.answer.place == place);
-  }
+  if (place < length) MUST(read_amply(header, place + 1).answer.number == 2);
+  if (is_unfit_at(header, length, place)) unfit_law(header, length, place);
 }
 
 static void room_law(const uint8_t *header, size_t length, capstan_read_answer a) {
@@ -210,15 +251,6 @@ static void code_law(reading r) {
   }
 }
 
-/* The number of the table's check: nothing has the empty relation. */
-static size_t judged(size_t in, reading r) {
-  static const uint8_t none;
-  capstan_search_answer s = capstan_search(in, r.text, r.length, r.links, r.link_slots, r.params, r.param_slots, r.answer.links,
-                                           r.answer.params, &none, 0);
-  MUST(s.link == 0);
-  return s.number;
-}
-
 /* With another code in one of its records the table is bad. */
 static void spoilt_code_law(reading r) {
   for (size_t i = 0; i < r.answer.params; i++) {
@@ -226,6 +258,17 @@ static void spoilt_code_law(reading r) {
     *code = i % 8 == 7 ? SIZE_MAX - i : (right + 1 + (r.length + i) % (NAMES + 1)) % (NAMES + 2);
     MUST(judged(CAPSTAN_RFC8288, r) == CAPSTAN_BAD_TABLE && judged(CAPSTAN_RFC5988, r) == CAPSTAN_BAD_TABLE);
     *code = right;
+  }
+}
+
+/* No reference begins with a colon, though it is an octet of targets: with one for its first octet a target makes the table bad. */
+static void spoilt_target_law(reading r) {
+  for (size_t link = 0; link < r.answer.links && link < 64; link++) {
+    uint8_t *octet = text_end - r.length + r.links[4 * link], right = *octet;
+    if (r.links[4 * link] == r.links[4 * link + 1]) continue;
+    *octet = ':';
+    MUST(judged(CAPSTAN_RFC8288, r) == CAPSTAN_BAD_TABLE && judged(CAPSTAN_RFC5988, r) == CAPSTAN_BAD_TABLE);
+    *octet = right;
   }
 }
 
@@ -259,7 +302,8 @@ static void form_law(reading r) {
   if (wider > 0) MUST(edition == CAPSTAN_RFC5988 && judged(CAPSTAN_RFC8288, r) == CAPSTAN_BAD_TABLE);
 }
 
-/* The older edition answers as RFC 8288's does, unless the header is malformed there; then it goes as far, or farther. */
+/* The older edition answers as RFC 8288's does, unless the header is malformed there; then it goes as far, or farther. It goes no farther
+   than a target that is no reference, since up to there both read alike. */
 static void edition_law(const uint8_t *header, size_t length) {
   static size_t links[4 * LINKS], params[CAPSTAN_PARAM_SLOTS * PARAMS];
   edition = CAPSTAN_RFC8288;
@@ -267,11 +311,13 @@ static void edition_law(const uint8_t *header, size_t length) {
   capstan_read_answer n = newer.answer;
   memcpy(links, newer.links, 4 * n.links * sizeof(size_t));
   memcpy(params, newer.params, CAPSTAN_PARAM_SLOTS * n.params * sizeof(size_t));
+  int unfit = n.number == 2 && is_unfit_at(header, length, n.place);
   edition = CAPSTAN_RFC5988;
   reading older = read_amply(header, length);
   capstan_read_answer o = older.answer;
   if (n.number == 2) {
-    MUST(o.number == 0 || (o.number == 2 && o.place >= n.place));
+    MUST((o.number == 0 && !unfit) || (o.number == 2 && o.place >= n.place));
+    MUST(!unfit || o.place == n.place);
     return;
   }
   MUST(o.number == n.number && o.place == n.place && o.links == n.links && o.params == n.params);
@@ -330,6 +376,7 @@ static void header_laws(const uint8_t *header, size_t length) {
     if (a.params <= 64) {
       value_law(r);
       spoilt_code_law(r);
+      spoilt_target_law(r);
     }
     code_law(r);
     form_law(r);
