@@ -19,11 +19,8 @@ use Rattle.part_scan.specs.declared.PartScan.the-variants as scans
 use Rattle.part_scan.specs.Moved.{Stays, Moved, ended, halted, refused, moved, judgedTo}
 use Rattle.part_scan.specs.Moved.{PartScanned, through, stuck-at, unfit-at}
 use Rattle.part_scan.proofs.Normals.{onward-normal}
+use Rattle.part_scan.proofs.TargetRuns.{TargetRun}
 use Rattle.part_scan.proofs.Leading.{Leaves, leads-on, leads-one, run-leads, pair-leads, target-leads, plain-quote}
-
--- outside targets the spot is that of its phase alone
-flat-of : (x : Spot) (p : ℕ) → Normal x → x .phase ≡ p → isOpen p ≡ false → x ≡ flat p
-flat-of x p n e o = n (ap isOpen e ∙ o) ∙ ap flat e
 
 -- the place behind place i, as the code counts it
 pub place-as : (extra : Extra) (x z : Spot) (base i c : ℕ) → z ≡ onward extra x (base + i + 1) c → onward extra x (base + suc i) c ≡ z
@@ -81,20 +78,8 @@ module _ {extra : Extra} {s : List ℕ} {base : ℕ} where
       })
   behind-leads f l (moved {c = c} g i m n) = moved {c = c} (omega arith) i (leads-on l m) n
 
-  pub stays-move : {x : Spot} {p a e : ℕ} {r : Move} → Normal x → x .phase ≡ p → isOpen p ≡ false → Stays extra s base p a e
-      → Moved extra s base x e r → Moved extra s base x a r
-  stays-move {x} {p} {a} {e} n g o y m =
-      let f = flat-of x p n g o in
-      behind-leads (y .forward)
-      (subst (λ (z : Spot). Leads extra s base z a z e) (sym f) (y .leads)) m
-
-  -- behind a run of octets that leave the phase
-  pub run-move : {f : ℕ → Bool} {x : Spot} {p a e : ℕ} {r : Move} → Normal x → x .phase ≡ p → Leaves extra f p → Passed f s a e
-      → Moved extra s base x e r → Moved extra s base x a r
-  run-move n g leaves y m = stays-move n g (leaves .outside .closed) (passed-stays leaves y) m
-
   -- behind a target's octets
-  pub target-move : {x : Spot} {a e : ℕ} {r : Move} → x .phase ≡ 1 → Passed isTarget s a e → Moved extra s base (judgedTo s x a e) e r
+  pub target-move : {x : Spot} {a e : ℕ} {r : Move} → x .phase ≡ 1 → TargetRun s a e → Moved extra s base (judgedTo s x a e) e r
       → Moved extra s base x a r
   target-move {x} {a} {e} g y m =
       behind-leads (y .forward)

@@ -1,2 +1,3 @@
 -- What the crate `part_scan` promises.
 pub mod Moved
+pub mod Stepping

@@ -1,18 +1,21 @@
-// From a spot on: past a run of octets that leave its phase as it is, and past the one behind them, which mostly doesn't.
+// From a spot on: in a target past a run of its octets and the one behind them, and outside of targets as far as one opens.
 ghost use mathlib.Core.Path.{_≡_};
-ghost use Prim.Native.Nat.{ℕ, _+_, _≤_, _<_, _^_};
+ghost use Prim.Native.Nat.{_+_, _≤_, _<_, _^_};
 ghost use lib.ListN.{length};
-ghost use Rattle.grammar.specs.Grammar.{Extra};
 ghost use Rattle.octets.specs.Editions.{further};
-ghost use Rattle.phases.specs.Spots.{Normal};
-ghost use Rattle.part_scan.specs.Moved.{Stays, Moved, judgedTo};
+ghost use Rattle.phases.specs.Spots.{Normal, spot};
+ghost use Rattle.part_scan.specs.Moved.{Moved, judgedTo};
+use crate::outside::Step;
+use crate::outside::outside;
 use cursor::Cursor;
 use kinds::Place;
 use octets::editions::Edition;
-use octets::sets::Set;
 use phases::spot::Spot;
 use phases::spot::UNFIT;
+use phases::spot::flat;
+use phases::spot::is_open;
 use phases::spot::onward;
+use reference_scan::past_blocks;
 use reference_scan::run_over;
 
 // The spot at the text's end, the place of an octet that leads nowhere, the start of a target that is no reference, or the spot and the
@@ -22,22 +25,6 @@ pub enum Move {
     Halt(Place),
     Unfit(Place),
     To(Spot, Cursor),
-}
-
-// Inside quotes, past octets that stand for themselves and past pairs, as in every edition.
-fn past_quoted(s: &[u8], from: Cursor) -> Cursor
-    requires { ⌜ from .at .0 ≤ length (now s) ⌝ }
-    ensures { λ r. ⌜ ((extra : Extra) (base : ℕ) → Stays extra (now (s .entry)) base 10 (from .at .0) (r .at .0)) ⌝ }
-{
-    let mut c = from.past_plain(s);
-    while c.sees(s, b'\\') {
-        let d = c.past_octet(s);
-        if !d.sees_in(s, Set::Escapable) {
-            return c;
-        }
-        c = d.past_octet(s).past_plain(s);
-    }
-    c
 }
 
 // Past the octet that stands here.
@@ -81,26 +68,44 @@ fn on_in_target(edition: Edition, s: &[u8], base: usize, spot: Spot, c: Cursor) 
     requires { ⌜ (c .at .0 ≤ length (now s)) × (base + length (now s) < 2 ^ 64) × (spot .phase ≡ 1) ⌝ }
     ensures { λ r. ⌜ Moved (further edition) (now (s .entry)) base spot (c .at .0) r ⌝ }
 {
-    let d = c.past_target(s);
+    let d = past_blocks(s, c).past_target(s);
     behind(edition, s, base, judged_to(s, spot, c, d), d)
 }
 
-// Each phase by itself, so that what follows a run is compiled for the phase that it is in.
+// In a target, or in a triple of one.
+fn in_target(edition: Edition, s: &[u8], base: usize, spot: Spot, c: Cursor) -> Move
+    requires { ⌜ (c .at .0 ≤ length (now s)) × (base + length (now s) < 2 ^ 64) ⌝ }
+    ensures { λ r. ⌜ Moved (further edition) (now (s .entry)) base spot (c .at .0) r ⌝ }
+{
+    if spot.phase == phases::TARGET {
+        return on_in_target(edition, s, base, spot, c);
+    }
+    behind(edition, s, base, spot, c)
+}
+
+// Behind the `<` of a target, which is open there.
+fn opened(at: usize) -> Spot
+    ensures { λ r. ⌜ r ≡ spot 1 at 0 ⌝ }
+{
+    Spot {
+        phase: phases::TARGET,
+        target: Place(at),
+        judged: 0,
+    }
+}
+
+// In a target past some octets of it, and outside of targets as far as one opens.
 pub fn go_on(edition: Edition, s: &[u8], base: usize, spot: Spot, c: Cursor) -> Move
     requires { ⌜ (c .at .0 ≤ length (now s)) × (base + length (now s) < 2 ^ 64) × Normal spot ⌝ }
     ensures { λ r. ⌜ Moved (further edition) (now (s .entry)) base spot (c .at .0) r ⌝ }
 {
-    let phase = spot.phase;
-    match phase {
-        phases::GAP => behind(edition, s, base, spot, c.past_blanks(s)),
-        phases::TARGET => on_in_target(edition, s, base, spot, c),
-        phases::AFTER => behind(edition, s, base, spot, c.past_blanks(s)),
-        phases::SEMI => behind(edition, s, base, spot, c.past_blanks(s)),
-        phases::NAME => behind(edition, s, base, spot, c.past_token(s)),
-        phases::NAMED => behind(edition, s, base, spot, c.past_blanks(s)),
-        phases::EQUALS => behind(edition, s, base, spot, c.past_blanks(s)),
-        phases::BARE => behind(edition, s, base, spot, c.past_token(s)),
-        phases::QUOTE => behind(edition, s, base, spot, past_quoted(s, c)),
-        _ => behind(edition, s, base, spot, c),
+    if is_open(spot.phase) {
+        return in_target(edition, s, base, spot, c);
+    }
+    match outside(edition, s, spot.phase, c) {
+        Step::End(phase) => Move::End(flat(phase)),
+        Step::Halt(at) => Move::Halt(at),
+        Step::Open(d) => Move::To(opened(base + d.at.0), d),
+        Step::To(phase, d) => Move::To(flat(phase), d),
     }
 }

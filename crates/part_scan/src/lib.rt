@@ -13,6 +13,7 @@ use phases::spot::Spot;
 use phases::spot::normal;
 
 mod go_on;
+mod outside;
 
 // The spot behind the part, the place in it of the first octet that leads nowhere, or the start of a target that is closed in it and is
 // no reference: its place in the header, which may lie before the part.

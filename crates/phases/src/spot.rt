@@ -22,7 +22,7 @@ pub struct Spot {
 }
 
 // Outside targets.
-fn flat(phase: usize) -> Spot
+pub fn flat(phase: usize) -> Spot
     ensures { λ r. ⌜ r ≡ flat phase ⌝ }
 {
     Spot {
@@ -33,7 +33,7 @@ fn flat(phase: usize) -> Spot
 }
 
 // Whether a target is open in this phase.
-fn is_open(phase: usize) -> bool
+pub fn is_open(phase: usize) -> bool
     ensures { λ r. ⌜ r ≡ isOpen phase ⌝ }
 {
     (TARGET <= phase) & (phase <= HEX)

@@ -4,7 +4,9 @@ ghost use Prim.Native.Nat.{_≤_};
 ghost use lib.ListN.{length};
 ghost use lib.Seq.{slice};
 ghost use Rattle.reference_steps.specs.Machine.{run, accepts};
+ghost use Rattle.reference_sets.specs.Sets.{isPath};
 ghost use Rattle.reference_scan.specs.Judges.{Judges};
+ghost use Rattle.reference_scan.specs.Passed.{Passed};
 use cursor::Cursor;
 use kinds::Place;
 use kinds::Span;
@@ -38,6 +40,15 @@ pub fn judge(s: &[u8], from: Cursor, state: usize) -> Judged
     let opened = opening::past_opening(s, i, state);
     let begun = opening::past_first_block(s, opened.at.at.0, opened.state);
     walking::walk(s, begun.at.at.0, begun.state)
+}
+
+// Past whole blocks of octets of which most references are made, wherever in one they stand.
+pub fn past_blocks(s: &[u8], from: Cursor) -> Cursor
+    requires { ⌜ from .at .0 ≤ length (now s) ⌝ }
+    ensures { λ r. ⌜ Passed isPath (now (s .entry)) (from .at .0) (r .at .0) ⌝ }
+{
+    let i = passing::past_blocks(s, from.at.0);
+    Cursor { at: Place(i) }
 }
 
 // The state behind a part of the text.

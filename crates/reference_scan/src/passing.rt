@@ -31,8 +31,8 @@ fn past_set(s: &[u8], from: usize, low: u64, high: u64) -> usize
     i
 }
 
-// Past octets of a path or a query, block by block; what is left of the text behind the last block goes octet by octet.
-fn past_path(s: &[u8], from: usize) -> usize
+// Past whole blocks of octets of a path or a query.
+pub fn past_blocks(s: &[u8], from: usize) -> usize
     requires { ⌜ from ≤ length (now s) ⌝ }
     ensures { λ r. ⌜ Passed isPath (now (s .entry)) from r ⌝ }
 {
@@ -40,6 +40,15 @@ fn past_path(s: &[u8], from: usize) -> usize
     while 16 <= s.len() - i && all_common(s, i) {
         i += 16;
     }
+    i
+}
+
+// Past octets of a path or a query, block by block; what is left of the text behind the last block goes octet by octet.
+fn past_path(s: &[u8], from: usize) -> usize
+    requires { ⌜ from ≤ length (now s) ⌝ }
+    ensures { λ r. ⌜ Passed isPath (now (s .entry)) from r ⌝ }
+{
+    let i = past_blocks(s, from);
     if 16 <= s.len() - i {
         return i + count_common(s, i);
     }

@@ -1,126 +1,90 @@
--- In each phase, the octets that leave it and then one more.
-use mathlib.Core.Path.{refl}
-use Rattle.octets.specs.Editions.{further}
-use Rattle.grammar.proofs.Editions.{apart}
-use Rattle.part_scan.proofs.Leading.{blank-gap, blank-after, blank-semi, blank-named, blank-equals, token-name, token-bare}
-use Rattle.part_scan.proofs.Moves.{run-move, stays-move}
+-- A move in a target, or the way to the next one.
+use native.Mathlib.Omega.{arith}
+use mathlib.Core.Path.{sym, _∙_}
+use Rattle.part_scan.proofs.Stepping.{move-ends, move-halts, move-opens, move-steps, open-inside}
 use borrow.Author.Needs.{needs}
 use Rattle.part_scan.proofs.go_on.go_on.Statement.{statement}
 use Rattle.part_scan.proofs.go_on.go_on.Tie as tie
 
-past-blanks-requires : tie.Need-past-blanks-requires
-past-blanks-requires c κs = search needs
+is-open-requires : tie.Need-is-open-requires
+is-open-requires c κs = search needs
 
-behind-requires : tie.Need-behind-requires
-behind-requires c κs = search needs
-
-on-in-target-requires : tie.Need-on-in-target-requires
-on-in-target-requires c κs = search needs
-
-past-blanks-requires-2 : tie.Need-past-blanks-requires-2
-past-blanks-requires-2 c κs = search needs
-
-behind-requires-2 : tie.Need-behind-requires-2
-behind-requires-2 c κs = search needs
-
-past-blanks-requires-3 : tie.Need-past-blanks-requires-3
-past-blanks-requires-3 c κs = search needs
-
-behind-requires-3 : tie.Need-behind-requires-3
-behind-requires-3 c κs = search needs
-
-past-token-requires : tie.Need-past-token-requires
-past-token-requires c κs = search needs
-
-behind-requires-4 : tie.Need-behind-requires-4
-behind-requires-4 c κs = search needs
-
-past-blanks-requires-4 : tie.Need-past-blanks-requires-4
-past-blanks-requires-4 c κs = search needs
-
-behind-requires-5 : tie.Need-behind-requires-5
-behind-requires-5 c κs = search needs
-
-past-blanks-requires-5 : tie.Need-past-blanks-requires-5
-past-blanks-requires-5 c κs = search needs
-
-behind-requires-6 : tie.Need-behind-requires-6
-behind-requires-6 c κs = search needs
-
-past-token-requires-2 : tie.Need-past-token-requires-2
-past-token-requires-2 c κs = search needs
-
-behind-requires-7 : tie.Need-behind-requires-7
-behind-requires-7 c κs = search needs
-
-past-quoted-requires : tie.Need-past-quoted-requires
-past-quoted-requires c κs = search needs
-
-behind-requires-8 : tie.Need-behind-requires-8
-behind-requires-8 c κs = ((c .past-quoted .ensures) (further (c .before .before .before .args .edition)) 0 .inside, c .before .before .before .pre .1)
-
-behind-requires-9 : tie.Need-behind-requires-9
-behind-requires-9 c κs = search needs
+in-target-requires : tie.Need-in-target-requires
+in-target-requires c κs = search needs
 
 returns : tie.Need-returns
-returns c = run-move (c .before .before .before .before .pre .2) (c .before .before .match .keys1) blank-gap (c .before .past-blanks .ensures) (c .behind .ensures)
+returns c = search needs
+
+outside-requires : tie.Need-outside-requires
+outside-requires c κs = (c .before .before .before .pre .0, sym (c .before .is-open .ensures) ∙ c .if1 .left)
+
+enum-known-phase : tie.Need-enum-known-phase
+enum-known-phase c = search needs
+
+flat-requires : tie.Need-flat-requires
+flat-requires c κs = search needs
+
+enum-known-at : tie.Need-enum-known-at
+enum-known-at c = search needs
+
+enum-known-d : tie.Need-enum-known-d
+enum-known-d c = search needs
+
+add-opened : tie.Need-add-opened
+add-opened c =
+    let b = c .before .before .before .before in
+    omega (arith, open-inside (b .outside .ensures) (c .before .before .d .given .1), b .before .before .before .before .pre .1)
+
+opened-requires : tie.Need-opened-requires
+opened-requires c κs = search needs
+
+enum-known-phase-2 : tie.Need-enum-known-phase-2
+enum-known-phase-2 c = search needs
+
+flat-requires-2 : tie.Need-flat-requires-2
+flat-requires-2 c κs = search needs
 
 returns-2 : tie.Need-returns-2
-returns-2 c = search needs
+returns-2 c =
+    let b = c .before .before .before .before in
+    move-ends (b .before .before .before .before .pre .2) (sym (b .before .before .is-open .ensures) ∙ b .before .if1 .left) (b .outside .ensures)
+    (c .before .before .phase .given .1) (c .flat .ensures)
 
 returns-3 : tie.Need-returns-3
-returns-3 c = run-move (c .before .before .before .before .pre .2) (c .before .before .match .keys3) blank-after (c .before .past-blanks2 .ensures) (c .behind2 .ensures)
+returns-3 c =
+    let b = c .before .before .before in
+    move-halts (b .before .before .before .before .pre .2) (sym (b .before .before .is-open .ensures) ∙ b .before .if1 .left) (b .outside .ensures)
+    (c .before .at .given .1)
 
 returns-4 : tie.Need-returns-4
-returns-4 c = run-move (c .before .before .before .before .pre .2) (c .before .before .match .keys4) blank-semi (c .before .past-blanks3 .ensures) (c .behind3 .ensures)
+returns-4 c =
+    let b = c .before .before .before .before .before in
+    move-opens (b .before .before .before .before .pre .2) (sym (b .before .before .is-open .ensures) ∙ b .before .if1 .left) (b .outside .ensures)
+    (c .before .before .before .d .given .1) (c .opened .ensures)
 
 returns-5 : tie.Need-returns-5
-returns-5 c = run-move (c .before .before .before .before .pre .2) (c .before .before .match .keys5) token-name (c .before .past-token .ensures) (c .behind4 .ensures)
-
-returns-6 : tie.Need-returns-6
-returns-6 c = run-move (c .before .before .before .before .pre .2) (c .before .before .match .keys6) blank-named (c .before .past-blanks4 .ensures) (c .behind5 .ensures)
-
-returns-7 : tie.Need-returns-7
-returns-7 c = run-move (c .before .before .before .before .pre .2) (c .before .before .match .keys7) blank-equals (c .before .past-blanks5 .ensures) (c .behind6 .ensures)
-
-returns-8 : tie.Need-returns-8
-returns-8 c = run-move (c .before .before .before .before .pre .2) (c .before .before .match .keys8) (token-bare (apart (c .before .before .before .before .args .edition))) (c .before .past-token2 .ensures) (c .behind7 .ensures)
-
-returns-9 : tie.Need-returns-9
-returns-9 c = stays-move (c .before .before .before .before .pre .2) (c .before .before .match .keys9) refl ((c .before .past-quoted .ensures) _ _) (c .behind8 .ensures)
-
-returns-10 : tie.Need-returns-10
-returns-10 c = search needs
+returns-5 c =
+    let b = c .before .before .before .before in
+    move-steps (b .before .before .before .before .pre .2) (sym (b .before .before .is-open .ensures) ∙ b .before .if1 .left) (b .outside .ensures)
+    (c .before .before .phase2 .given .1) (c .flat2 .ensures)
 
 pub go-on-spec : {M : Type 1} → statement M
 go-on-spec =
     tie.close
     (tie.spec
-    past-blanks-requires
-    behind-requires
-    on-in-target-requires
-    past-blanks-requires-2
-    behind-requires-2
-    past-blanks-requires-3
-    behind-requires-3
-    past-token-requires
-    behind-requires-4
-    past-blanks-requires-4
-    behind-requires-5
-    past-blanks-requires-5
-    behind-requires-6
-    past-token-requires-2
-    behind-requires-7
-    past-quoted-requires
-    behind-requires-8
-    behind-requires-9
+    is-open-requires
+    in-target-requires
     returns
+    outside-requires
+    enum-known-phase
+    flat-requires
+    enum-known-at
+    enum-known-d
+    add-opened
+    opened-requires
+    enum-known-phase-2
+    flat-requires-2
     returns-2
     returns-3
     returns-4
-    returns-5
-    returns-6
-    returns-7
-    returns-8
-    returns-9
-    returns-10)
+    returns-5)

@@ -12,8 +12,8 @@ use Rattle.grammar.specs.Grammar.{Extra, At, In}
 use Rattle.cursor.specs.Passed.{Passed}
 use Rattle.part_scan.specs.Moved.{Stays}
 use Rattle.part_scan.proofs.Moves.{stays-on, stays-here, plain-stays, pair-stays}
-use Rattle.part_scan.proofs.go_on.past_quoted.Statement.{statement}
-use Rattle.part_scan.proofs.go_on.past_quoted.Tie as tie
+use Rattle.part_scan.proofs.outside.past_quoted.Statement.{statement}
+use Rattle.part_scan.proofs.outside.past_quoted.Tie as tie
 
 abbrev Inv-loop : tie.InvT-loop
 Inv-loop s c₀ c = (extra : Extra) (base : ℕ) → Stays extra s base 10 (c₀ .at .0) (c .at .0)
