@@ -1,5 +1,5 @@
 // A header that arrives in parts. Each part is judged from the spot on at which the one before it ended, and then stored behind what
-// was gathered; so an octet is judged once, however the header is cut, and a refusal stores nothing.
+// was gathered; so no octet of an earlier part is looked at again, however the header is cut, and a refusal stores nothing.
 ghost use mathlib.Core.Path.{_≡_};
 ghost use Prim.Native.Nat.{_+_, suc, min};
 ghost use lib.ListN.{length};

@@ -1,8 +1,8 @@
--- Moves behind runs of octets, and a part scanned move by move.
+-- What octets leave as it is, moves in a target, and a part scanned move by move.
 use Prim.Native.Nat.{ℕ, suc, _+_, _≤_, _<_}
 use native.Mathlib.Omega.{arith}
 use mathlib.Core.Path.{_≡_, sym, ap, subst, _∙_}
-use mathlib.Core.Bool.{Bool, false}
+use mathlib.Core.Bool.{Bool}
 use mathlib.Core.List.{List}
 use lib.ListN.{length, getD}
 use Rattle.octets.specs.Sets.{isTarget, isPlain, isEscapable}
@@ -12,14 +12,13 @@ use Rattle.kinds.specs.declared.Place.{Place}
 use Rattle.cursor.specs.declared.Cursor.{Cursor}
 use Rattle.phases.specs.declared.spot.Spot.{Spot}
 use Rattle.phases.specs.Steps.{stuck}
-use Rattle.phases.specs.Spots.{unfit, spot, flat, isOpen, Normal, onward, Live, Leads, here}
+use Rattle.phases.specs.Spots.{unfit, spot, Normal, onward, Live, Leads, here}
 use Rattle.part_scan.specs.declared.go_on.Move.{Move}
 use Rattle.part_scan.specs.declared.go_on.Move.the-variants.{End, Halt, Unfit, To}
 use Rattle.part_scan.specs.declared.PartScan.the-variants as scans
 use Rattle.part_scan.specs.Moved.{Stays, Moved, ended, halted, refused, moved, judgedTo}
 use Rattle.part_scan.specs.Moved.{PartScanned, through, stuck-at, unfit-at}
 use Rattle.part_scan.proofs.Normals.{onward-normal}
-use Rattle.part_scan.proofs.TargetRuns.{TargetRun}
 use Rattle.part_scan.proofs.Leading.{Leaves, leads-on, leads-one, run-leads, pair-leads, target-leads, plain-quote}
 
 -- the place behind place i, as the code counts it
@@ -79,7 +78,7 @@ module _ {extra : Extra} {s : List ℕ} {base : ℕ} where
   behind-leads f l (moved {c = c} g i m n) = moved {c = c} (omega arith) i (leads-on l m) n
 
   -- behind a target's octets
-  pub target-move : {x : Spot} {a e : ℕ} {r : Move} → x .phase ≡ 1 → TargetRun s a e → Moved extra s base (judgedTo s x a e) e r
+  pub target-move : {x : Spot} {a e : ℕ} {r : Move} → x .phase ≡ 1 → Passed isTarget s a e → Moved extra s base (judgedTo s x a e) e r
       → Moved extra s base x a r
   target-move {x} {a} {e} g y m =
       behind-leads (y .forward)

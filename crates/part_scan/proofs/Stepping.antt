@@ -1,7 +1,7 @@
 -- Steps outside of targets: one octet, one behind a run, and one behind another; and the moves that they are.
 use Prim.Native.Nat.{ℕ, suc, _+_, _≤_, _<_}
 use native.Mathlib.Omega.{arith}
-use mathlib.Core.Path.{_≡_, refl, sym, ap, subst, _∙_}
+use mathlib.Core.Path.{_≡_, refl, sym, subst, _∙_}
 use mathlib.Core.Bool.{Bool, true, false, true≢false}
 use mathlib.Core.List.{List}
 use lib.Dec.{eqb}
@@ -17,7 +17,7 @@ use Rattle.phases.specs.Spots.{unfit, spot, flat, isOpen, Normal, onward, Live,
 use Rattle.part_scan.specs.declared.go_on.Move.the-variants as moves
 use Rattle.part_scan.specs.declared.outside.Step.{Step}
 use Rattle.part_scan.specs.declared.outside.Step.the-variants.{End, Halt, Open, To}
-use Rattle.part_scan.specs.Moved.{Halts, Stays, Moved, ended, halted, moved}
+use Rattle.part_scan.specs.Moved.{Stays, Moved, ended, halted, moved}
 use Rattle.part_scan.specs.Stepping.{Stepped, ends, halts, opens, steps}
 use Rattle.part_scan.proofs.Leading.{Leaves, leads-on, leads-one, run-leads}
 use Rattle.part_scan.proofs.OutSteps as outs

@@ -14,11 +14,6 @@ use Rattle.cursor.specs.Passed as cursor
 use Rattle.reference_sets.specs.Sets.{isPath}
 use Rattle.reference_scan.specs.Passed as block
 
-pub record TargetRun (s : List ℕ) (a e : ℕ) : Type 0 where
-  pub forward : a ≤ e
-  pub inside : e ≤ length s
-  pub run : Run s isTarget a e
-
 -- a path's octets are a target's
 path-target : (c : ℕ) → isPath c ≡ true → isTarget c ≡ true
 unfolding isTarget isLetter isDigit
@@ -43,10 +38,11 @@ module _ {s : List ℕ} where
       (blocks-run n (suc a) e (omega arith) h (λ k l m. all k (omega arith) m))
 
   -- blocks, and then octet by octet
-  pub target-run : {a b e : ℕ} → block.Passed isPath s a b → cursor.Passed isTarget s b e → TargetRun s a e
+  pub target-run : {a b e : ℕ} → block.Passed isPath s a b → cursor.Passed isTarget s b e → cursor.Passed isTarget s a e
   target-run {a} {b} {e} x y =
       record {
         forward = omega (arith, x .forward, y .forward);
         inside = y .inside;
         run = run-on (blocks-run (b - a) a b (omega (arith, x .forward)) (x .inside) (x .all)) (y .run);
+        stops = y .stops;
       }

@@ -14,7 +14,8 @@ use reference_octet::next;
 // The phase behind the `>` of a target that is no reference.
 pub const UNFIT: usize = 13;
 
-// The phase and, in a target, the target's start and the state of its judging as a reference; elsewhere both are 0.
+// The phase and, in a target, the target's start and the state of its judging as a reference; outside both are 0, and behind a target that
+// is no reference the state is.
 pub struct Spot {
     pub phase: usize,
     pub target: Place,

@@ -1,4 +1,4 @@
--- How `http://` and `https://` lead to the state behind two slashes. Assumes nothing.
+-- How `http://` and `https://` lead to the state behind two slashes, and a slash alone into a path. Assumes nothing.
 use Prim.Native.Nat.{ℕ, _+_, _≤_, _<_}
 use native.Mathlib.Omega.{arith}
 use mathlib.Core.Path.{_≡_, refl, sym, ap, _∙_}

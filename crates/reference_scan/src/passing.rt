@@ -78,8 +78,8 @@ fn past_units(s: &[u8], from: usize, q: usize) -> usize
     i
 }
 
-// Past what keeps the state, where it has such a run: a path, a query or a fragment; an authority, or the host in it; its port; a scheme;
-// a first segment that is none.
+// Past what keeps the state, where it has such a run: a path, a query or a fragment; an authority, or the host in it; its port, which is
+// of digits; a scheme; a first segment that can't be a scheme, of plain octets and `@`.
 pub fn past_run(s: &[u8], i: usize, q: usize) -> usize
     requires { ⌜ i ≤ length (now s) ⌝ }
     ensures { λ r. ⌜ Comes (now (s .entry)) i q r q ⌝ }

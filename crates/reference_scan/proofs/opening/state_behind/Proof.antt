@@ -1,4 +1,4 @@
--- As long as all octets are common ones, the state is a host's or a path's. Assumes nothing.
+-- As long as all octets are those of hosts and paths, the state is a host's or a path's. Assumes nothing.
 use Prim.Native.Nat.{ℕ, _+_, _-_, _≤_, _<_}
 use native.Mathlib.Omega.{arith}
 use mathlib.Core.Path.{_≡_, refl, sym, _∙_}

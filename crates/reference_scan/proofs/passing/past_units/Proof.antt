@@ -2,7 +2,6 @@
 use Prim.Native.Nat.{_-_}
 use native.Mathlib.Omega.{arith}
 use lib.ListN.{length}
-use borrow.Author.Needs.{needs}
 use Rattle.reference_scan.specs.Comes.{Comes}
 use Rattle.reference_scan.proofs.Runs.{passed-within}
 use Rattle.reference_scan.proofs.Between.{comes-then, comes-kept}
