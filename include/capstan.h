@@ -1,5 +1,5 @@
 /*
- * Reads, searches and writes HTTP Link field values (RFC 8288, and the older RFC 5988).
+ * Reads, searches and writes HTTP Link field values (RFC 8288, and the older RFC 5988), and decodes their titles (RFC 8187).
  *
  * Every function is proved to answer as the definitions in crates/outcomes/specs settle it, the code of a name as that in
  * crates/grammar/specs/Kept.antt does, and a comparison as those in crates/octets/specs/Fold.antt do, for every input; of a feeding's
@@ -56,7 +56,7 @@
 extern "C" {
 #endif
 
-/* The most octets of a header, a table's text or a written form, and the least of a buffer that gathers a header. */
+/* The most octets of a header, a table's text, a written form or an extended value, and the least of a buffer that gathers a header. */
 #define CAPSTAN_LIMIT 8192
 
 /* The numbers of one link record, and of one parameter record. */
@@ -71,16 +71,17 @@ enum {
 
 enum {
     CAPSTAN_DONE = 0,
-    CAPSTAN_TOO_LONG = 1,        /* a header, all feeds, a table's text or a written form: over CAPSTAN_LIMIT octets */
-    CAPSTAN_MALFORMED = 2,       /* the header isn't well formed; at a feed, what was fed is wrong, whatever follows */
-    CAPSTAN_NO_LINK_ROOM = 3,    /* more links than room */
-    CAPSTAN_NO_PARAM_ROOM = 4,   /* more kept parameters than room */
-    CAPSTAN_BAD_TABLE = 5,       /* the table is not good */
-    CAPSTAN_NO_RELATION = 6,     /* a link to be written has no `rel`, or one with no relations */
-    CAPSTAN_NO_OUTPUT_ROOM = 7,  /* the output buffer is shorter than the result, or a gathering one than the limit */
-    CAPSTAN_NO_SUCH_LINK = 8,    /* the link number is not below the count */
-    CAPSTAN_NOT_FOUND = 9,       /* no such parameter, or no link has the relation */
-    CAPSTAN_UNKNOWN_EDITION = 10 /* the edition is neither CAPSTAN_RFC8288 nor CAPSTAN_RFC5988 */
+    CAPSTAN_TOO_LONG = 1,         /* a header, all feeds, a table's text, a written form or an extended value: over CAPSTAN_LIMIT */
+    CAPSTAN_MALFORMED = 2,        /* the header isn't well formed; at a feed, what was fed is wrong, whatever follows */
+    CAPSTAN_NO_LINK_ROOM = 3,     /* more links than room */
+    CAPSTAN_NO_PARAM_ROOM = 4,    /* more kept parameters than room */
+    CAPSTAN_BAD_TABLE = 5,        /* the table is not good */
+    CAPSTAN_NO_RELATION = 6,      /* a link to be written has no `rel`, or one with no relations */
+    CAPSTAN_NO_OUTPUT_ROOM = 7,   /* the output buffer is shorter than the result, or a gathering one than the limit */
+    CAPSTAN_NO_SUCH_LINK = 8,     /* the link number is not below the count */
+    CAPSTAN_NOT_FOUND = 9,        /* no such parameter, no link has the relation, or the link has no title */
+    CAPSTAN_UNKNOWN_EDITION = 10, /* the edition is neither CAPSTAN_RFC8288 nor CAPSTAN_RFC5988 */
+    CAPSTAN_BAD_EXTENDED = 11     /* the extended value is wrong */
 };
 
 /* The forms of a parameter's value. */
@@ -219,6 +220,32 @@ capstan_context_answer capstan_context(size_t edition, const uint8_t *text, size
 capstan_length_answer capstan_value(size_t edition, const uint8_t *text, size_t text_len, const size_t *links, size_t link_slots,
                                     const size_t *params, size_t param_slots, size_t link_count, size_t param_count, size_t link,
                                     size_t place, uint8_t *out, size_t out_len);
+
+/*
+ * Writes the title of link number `link` to `out`, and answers its length: the octets that its `title*` gives if that is a right
+ * extended value (capstan_decode says which are), and else the meaning of its `title`, both with the backslashes of a quoted string
+ * taken out first. A `title*` that is wrong counts as none, one without a value too, and nothing of it is copied. One that is right and
+ * gives no octets is a title of length 0, and one that finds no room is refused with CAPSTAN_NO_OUTPUT_ROOM: neither leads to `title`.
+ * What `title*` gives is UTF-8; the octets of a `title` are not judged, and may be any that stand in a value. Room for the span of the
+ * value that is taken is always enough.
+ * Numbers, in order: CAPSTAN_UNKNOWN_EDITION, CAPSTAN_TOO_LONG, CAPSTAN_BAD_TABLE, CAPSTAN_NO_SUCH_LINK, CAPSTAN_NOT_FOUND (neither a
+ * right `title*` nor a `title`), CAPSTAN_NO_OUTPUT_ROOM.
+ */
+capstan_length_answer capstan_title(size_t edition, const uint8_t *text, size_t text_len, const size_t *links, size_t link_slots,
+                                    const size_t *params, size_t param_slots, size_t link_count, size_t param_count, size_t link,
+                                    uint8_t *out, size_t out_len);
+
+/*
+ * Writes the octets that an extended value (RFC 8187) gives to `out`, and answers how many there are. The value is `UTF-8` in any case,
+ * `'`, a language of letters, digits and hyphens, which may be empty, `'`, and then attribute characters, which are the octets of tokens
+ * but for `*`, `'` and `%`, and triples, a `%` with two hex digits of either case. An attribute character gives itself, a triple the
+ * octet of its digits; what they give together must be well formed UTF-8 by RFC 3629, without overlong forms, surrogates and numbers
+ * over 10FFFF hex, or the value is wrong. Any other octet is wrong, a backslash too: capstan_value takes those of a quoted string out.
+ * `UTF-8''` gives no octets, and `UTF-8''%00` one. The editions don't differ in it, so it takes none. A refusal leaves `out` as it was,
+ * also where the value is wrong only at its end. Room for the value itself is always enough.
+ * Numbers, in order: CAPSTAN_TOO_LONG, CAPSTAN_BAD_EXTENDED, CAPSTAN_NO_OUTPUT_ROOM.
+ */
+capstan_length_answer capstan_decode(const uint8_t *value, size_t value_len, uint8_t *out, size_t out_len);
 
 /*
  * Writes a table to `out` as a header in one fixed form, and answers its length. Links are parted by a comma and a space; each is its

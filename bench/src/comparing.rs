@@ -1,6 +1,6 @@
 //! What is compared before anything is measured.
 
-use crate::library::{self, EDITION, LIMIT};
+use crate::library::{self, Table, EDITION, LIMIT};
 use capstanbar::ffi::{self, FeedingState, ReadAnswer};
 
 /// What reading answers, and the slots as it leaves them.
@@ -36,6 +36,20 @@ pub fn reading_in(edition: usize, name: &str, header: &[u8]) -> Reading {
     });
     assert!(this == independent, "{name}: the readings differ");
     this
+}
+
+/// A well-formed header, read into tables.
+pub fn table(name: &str, header: &[u8]) -> Table {
+    let reading = reading(name, header);
+    assert_eq!(reading.answer.number, 0, "{name}");
+    let (links, params) = reading.slots;
+    Table {
+        text: header.to_vec(),
+        links,
+        params,
+        link_count: reading.answer.links,
+        param_count: reading.answer.params,
+    }
 }
 
 /// Feeds the header in parts of each size: each feed answers what the independent reader's place tells of the octets so far, and the

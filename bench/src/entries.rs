@@ -16,26 +16,13 @@ pub fn print() {
         .iter()
         .for_each(|(name, headers)| read(name, headers));
     let samples = samples();
+    let table_of = |sample: &Sample| comparing::table(sample.name, &sample.header);
     let tables: Vec<Table> = samples.iter().map(table_of).collect();
     let asked = || samples.iter().zip(&tables);
     asked().for_each(|(sample, table)| search(sample, table));
     asked().for_each(|(sample, table)| value(sample, table));
     asked().for_each(|(sample, table)| write(sample.name, table));
     write("60 links that share spans", &shared_spans());
-}
-
-/// A header read into tables.
-fn table_of(sample: &Sample) -> Table {
-    let reading = comparing::reading(sample.name, &sample.header);
-    assert_eq!(reading.answer.number, 0);
-    let (links, params) = reading.slots;
-    Table {
-        text: sample.header.clone(),
-        links,
-        params,
-        link_count: reading.answer.links,
-        param_count: reading.answer.params,
-    }
 }
 
 /// A table that no header was read into.

@@ -28,6 +28,19 @@ pub fn value(t: &Table, link: usize, place: usize, out: &mut [u8]) -> (usize, us
     )
 }
 
+pub fn title(t: &Table, link: usize, out: &mut [u8]) -> (usize, usize) {
+    oracle::title(
+        EDITION,
+        &t.text,
+        &t.links,
+        &t.params,
+        t.link_count,
+        t.param_count,
+        link,
+        out,
+    )
+}
+
 pub fn write(t: &Table, out: &mut [u8]) -> (usize, usize) {
     oracle::write(
         EDITION,

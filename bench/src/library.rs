@@ -78,6 +78,18 @@ pub fn value(table: &Table, link: usize, place: usize, out: &mut [u8]) -> (usize
 }
 
 /// The number, and the length.
+pub fn title(table: &Table, link: usize, out: &mut [u8]) -> (usize, usize) {
+    let answer = ffi::title(EDITION, table.raw(), link, out);
+    (answer.number, answer.length)
+}
+
+/// The number, and the length.
+pub fn decode(value: &[u8], out: &mut [u8]) -> (usize, usize) {
+    let answer = ffi::decode(black_box(value), out);
+    (answer.number, answer.length)
+}
+
+/// The number, and the length.
 pub fn write(table: &Table, out: &mut [u8]) -> (usize, usize) {
     let answer = ffi::write(EDITION, table.raw(), out);
     (answer.number, answer.length)

@@ -14,6 +14,7 @@ mod independent;
 mod library;
 mod names;
 mod pairs;
+mod titles;
 
 fn main() {
     entries::print();
@@ -29,4 +30,6 @@ fn main() {
     pairs::print();
     println!();
     editions::print();
+    println!();
+    titles::print();
 }

@@ -1,4 +1,4 @@
-/* Finds the next and the previous pack in the Link header of a dialogue pack: pack_links [HEADER] */
+/* Finds the next and the previous pack in the Link header of a dialogue pack, and their titles: pack_links [HEADER] */
 #include "capstan.h"
 
 #include <stdio.h>
@@ -37,7 +37,23 @@ static void print_languages(size_t number)
     }
 }
 
-/* Prints the target of the first link that has the relation, its languages, and what it is a link of if not of the pack itself. */
+/* Prints a line with the link's title, if it has one: a title in the player's language if the header has it, else the plain one. */
+static void print_title(size_t number)
+{
+    static uint8_t title[CAPSTAN_LIMIT]; /* enough for any title, so none is refused for want of room */
+    capstan_length_answer told = capstan_title(CAPSTAN_RFC8288, text, text_len, links, LINK_SLOTS, params, PARAM_SLOTS, table.links,
+                                               table.params, number, title, sizeof title);
+    if (told.number != CAPSTAN_DONE)
+        return;
+    printf("  title: ");
+    fwrite(title, 1, told.length, stdout);
+    putchar('\n');
+}
+
+/*
+ * Prints the target of the first link that has the relation, its languages, and what it is a link of if not of the pack itself; its
+ * title stands on the next line.
+ */
 static void print_link(const char *relation)
 {
     capstan_search_answer found = capstan_search(CAPSTAN_RFC8288, text, text_len, links, LINK_SLOTS, params, PARAM_SLOTS, table.links,
@@ -60,6 +76,7 @@ static void print_link(const char *relation)
         putchar('>');
     }
     putchar('\n');
+    print_title(found.link);
 }
 
 int main(int argc, char **argv)

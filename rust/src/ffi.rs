@@ -16,8 +16,9 @@ pub use answers::{
     SearchAnswer,
 };
 use symbols::{
-    capstan_compare, capstan_context, capstan_feed, capstan_finish, capstan_name_code,
-    capstan_read, capstan_search, capstan_start, capstan_value, capstan_write,
+    capstan_compare, capstan_context, capstan_decode, capstan_feed, capstan_finish,
+    capstan_name_code, capstan_read, capstan_search, capstan_start, capstan_title, capstan_value,
+    capstan_write,
 };
 
 /// Reads a header into the slots lent.
@@ -238,6 +239,52 @@ pub fn value(
             out.len(),
         )
     }
+}
+
+/// Copies the title of a link: what its `title*` gives, or else what its `title` means.
+///
+/// ```
+/// use capstanbar::ffi::{title, RawTable};
+///
+/// let (links, params) = ([0, 0, 0, 1], [0, 6, 6, 16, 1, 5]);
+/// let text = b"title*UTF-8''%41";
+/// let table = RawTable { text, links: &links, params: &params, link_count: 1, param_count: 1 };
+/// let mut out = *b"....";
+/// assert_eq!((title(0, table, 0, &mut out).length, &out), (1, b"A..."));
+/// assert_eq!(title(0, table, 1, &mut out).number, 8);
+/// ```
+pub fn title(edition: usize, table: RawTable<'_>, link: usize, out: &mut [u8]) -> LengthAnswer {
+    // SAFETY: as in `read`; the output alone is lent for writing.
+    unsafe {
+        capstan_title(
+            edition,
+            table.text.as_ptr(),
+            table.text.len(),
+            table.links.as_ptr(),
+            table.links.len(),
+            table.params.as_ptr(),
+            table.params.len(),
+            table.link_count,
+            table.param_count,
+            link,
+            out.as_mut_ptr(),
+            out.len(),
+        )
+    }
+}
+
+/// Decodes one extended value.
+///
+/// ```
+/// use capstanbar::ffi::decode;
+///
+/// let mut out = *b"....";
+/// assert_eq!((decode(b"UTF-8''%c3%a4", &mut out).length, &out), (2, b"\xc3\xa4.."));
+/// assert_eq!(decode(b"UTF-8''%c3", &mut out).number, 11);
+/// ```
+pub fn decode(value: &[u8], out: &mut [u8]) -> LengthAnswer {
+    // SAFETY: as in `read`; the output alone is lent for writing.
+    unsafe { capstan_decode(value.as_ptr(), value.len(), out.as_mut_ptr(), out.len()) }
 }
 
 /// Writes the table's one written form.

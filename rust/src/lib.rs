@@ -1,5 +1,5 @@
 //! HTTP `Link` field values (RFC 8288, and the older RFC 5988): read into tables that the caller lends,
-//! asked, and written back in one fixed form.
+//! asked, also for titles in any language (RFC 8187), and written back in one fixed form.
 //!
 //! The work is done by a static library whose promises are proved for every input; this crate makes
 //! it safe and pleasant to call. It allocates nothing and needs no `std`.
@@ -42,6 +42,21 @@
 //! let languages = next.find_all(Name::Hreflang).map(|param| param.raw_value());
 //! assert!(languages.eq([b"en", b"de"]));
 //! assert!(next.find(b"Pack").is_some());
+//! # Ok::<(), capstanbar::Refusal>(())
+//! ```
+//!
+//! A link's [`Title`] is the text of its `title*` where that is right, and else what its `title` holds,
+//! whose octets nobody judged. [`decode`] decodes any extended value:
+//!
+//! ```
+//! use capstanbar::{decode, Table, Title, LINK_SLOTS, PARAM_SLOTS};
+//!
+//! let (mut links, mut params) = ([0; 16 * LINK_SLOTS], [0; 64 * PARAM_SLOTS]);
+//! let header = b"</packs/9>; rel=next; title=Harbour; title*=UTF-8'de'H%c3%a4fen";
+//! let table = Table::read(header, &mut links, &mut params)?;
+//! let mut room = [0; 64];
+//! assert_eq!(table.search(b"next")?.title(&mut room)?, Title::Text("H\u{e4}fen"));
+//! assert_eq!(decode(b"utf-8''%e2%82%ac", &mut room)?, "\u{20ac}");
 //! # Ok::<(), capstanbar::Refusal>(())
 //! ```
 //!
@@ -109,6 +124,7 @@
 #![warn(missing_docs)]
 
 mod compare;
+mod decode;
 mod edition;
 mod feeding;
 pub mod ffi;
@@ -119,8 +135,10 @@ mod param;
 mod read;
 mod refusal;
 mod table;
+mod title;
 
 pub use compare::{compare, Comparison};
+pub use decode::decode;
 pub use edition::Edition;
 pub use feeding::Feeding;
 pub use limits::{LIMIT, LINK_SLOTS, PARAM_SLOTS};
@@ -130,3 +148,4 @@ pub use param::{Form, NamedParams, Param, Params};
 pub use read::{read, read_in, Counts};
 pub use refusal::Refusal;
 pub use table::Table;
+pub use title::Title;

@@ -1,4 +1,4 @@
-use crate::{ByName, NamedParams, Param, Params, Table};
+use crate::{ByName, NamedParams, Param, Params, Refusal, Table, Title};
 use core::ops::Range;
 
 /// A link of a table.
@@ -118,6 +118,28 @@ impl<'a> Link<'a> {
         self.table
             .context(base, self.number)
             .expect("the table is good and has this link")
+    }
+
+    /// Copies its title, as [`Table::title`] does: the text of its `title*` if that is right, else the
+    /// octets of its `title`.
+    ///
+    /// Refused in this order: not found, no output room.
+    ///
+    /// ```
+    /// use capstanbar::{Refusal, Title};
+    ///
+    /// # let (mut links, mut params) = ([0; 16], [0; 64]);
+    /// let header = b"<a>;title*=UTF-8'de'n%c3%a4chstes%20Kapitel, <b>;title=\"Last chapter\", <c>";
+    /// let table = capstanbar::Table::read(header, &mut links, &mut params)?;
+    /// let mut out = [0; 64];
+    /// let [a, b, c] = [0, 1, 2].map(|number| table.link(number).unwrap());
+    /// assert_eq!(a.title(&mut out)?, Title::Text("n\u{e4}chstes Kapitel"));
+    /// assert_eq!(b.title(&mut out)?, Title::Octets(b"Last chapter"));
+    /// assert_eq!(c.title(&mut out), Err(Refusal::NotFound));
+    /// # Ok::<(), Refusal>(())
+    /// ```
+    pub fn title<'o>(&self, out: &'o mut [u8]) -> Result<Title<'o>, Refusal> {
+        self.table.title(self.number, out)
     }
 }
 

@@ -13,7 +13,7 @@ use core::fmt;
 #[derive(Clone, Copy, Debug, PartialEq, Eq, Hash)]
 #[non_exhaustive]
 pub enum Refusal {
-    /// The header, all that was fed, the text or the written form has over
+    /// The header, all that was fed, the text, the written form or the extended value has over
     /// [`LIMIT`](crate::LIMIT) octets.
     TooLong,
     /// The header isn't well formed; at a feed, what was fed is wrong, whatever follows.
@@ -41,11 +41,14 @@ pub enum Refusal {
     NoOutputRoom,
     /// The link number isn't below the count.
     NoSuchLink,
-    /// There is no such parameter, or no link has the relation.
+    /// There is no such parameter, no link has the relation, or the link has no title.
     NotFound,
     /// The number is no edition's. Only [`ffi`](crate::ffi) can be given one; an
     /// [`Edition`](crate::Edition) is always known.
     UnknownEdition,
+    /// The extended value is wrong. A link's title is never refused for it: a `title*` that is wrong
+    /// counts as none.
+    BadExtended,
 }
 
 impl Refusal {
@@ -56,7 +59,7 @@ impl Refusal {
     ///
     /// assert_eq!(Refusal::TooLong.number(), 1);
     /// assert_eq!(Refusal::Malformed { place: 13 }.number(), 2);
-    /// assert_eq!(Refusal::UnknownEdition.number(), 10);
+    /// assert_eq!(Refusal::BadExtended.number(), 11);
     /// ```
     pub const fn number(self) -> usize {
         match self {
@@ -70,13 +73,14 @@ impl Refusal {
             Refusal::NoSuchLink => 8,
             Refusal::NotFound => 9,
             Refusal::UnknownEdition => 10,
+            Refusal::BadExtended => 11,
         }
     }
 
     /// What the answered number says: nothing refused, or the refusal. The place counts with number
     /// 2 alone.
     ///
-    /// The library is proved to answer no other number, so one past 10 means that the library linked
+    /// The library is proved to answer no other number, so one past 11 means that the library linked
     /// isn't the one this crate was made for.
     pub(crate) fn check(number: usize, place: usize) -> Result<(), Refusal> {
         Err(match number {
@@ -91,6 +95,7 @@ impl Refusal {
             8 => Refusal::NoSuchLink,
             9 => Refusal::NotFound,
             10 => Refusal::UnknownEdition,
+            11 => Refusal::BadExtended,
             _ => panic!("the library answered the unknown number {number}"),
         })
     }
@@ -109,6 +114,7 @@ impl fmt::Display for Refusal {
             Refusal::NoSuchLink => "no such link",
             Refusal::NotFound => "not found",
             Refusal::UnknownEdition => "unknown edition",
+            Refusal::BadExtended => "wrong extended value",
         })
     }
 }

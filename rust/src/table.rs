@@ -1,5 +1,5 @@
 use crate::ffi::{self, RawTable};
-use crate::{read_in, Counts, Edition, Link, Links, Refusal, LINK_SLOTS, PARAM_SLOTS};
+use crate::{read_in, Counts, Edition, Link, Links, Refusal, Title, LINK_SLOTS, PARAM_SLOTS};
 
 /// A good table: a text, and link and parameter records in slots that are lent as long as it lives.
 ///
@@ -314,6 +314,32 @@ impl<'a> Table<'a> {
         let answer = ffi::value(self.edition.number(), self.raw, link, place, out);
         Refusal::check(answer.number, 0)?;
         Ok(&out[..answer.length])
+    }
+
+    /// Copies the title of a link to the beginning of the output, and hands back what was copied: the
+    /// text that its `title*` gives, if that is a right extended value as [`decode`](crate::decode)
+    /// says, and else the meaning of its `title`.
+    ///
+    /// Refused in this order: no such link, not found, no output room. A `title*` that is right but
+    /// finds no room is refused so, too. Room for the value taken, as written, is always enough.
+    ///
+    /// ```
+    /// use capstanbar::{Refusal, Table, Title};
+    ///
+    /// # let (mut links, mut params) = ([0; 8], [0; 64]);
+    /// let header = b"<a>;title=next;title*=UTF-8''n%c3%a4chstes, <b>";
+    /// let table = Table::read(header, &mut links, &mut params)?;
+    /// let mut out = [0; 9];
+    /// assert_eq!(table.title(0, &mut out)?, Title::Text("n\u{e4}chstes"));
+    /// assert_eq!(table.title(0, &mut out[..8]), Err(Refusal::NoOutputRoom));
+    /// assert_eq!(table.title(1, &mut out), Err(Refusal::NotFound));
+    /// assert_eq!(table.title(2, &mut out), Err(Refusal::NoSuchLink));
+    /// # Ok::<(), Refusal>(())
+    /// ```
+    pub fn title<'o>(&self, link: usize, out: &'o mut [u8]) -> Result<Title<'o>, Refusal> {
+        let answer = ffi::title(self.edition.number(), self.raw, link, out);
+        Refusal::check(answer.number, 0)?;
+        Ok(Title::of(Link::of(*self, link), &out[..answer.length]))
     }
 
     /// Writes the table in its one fixed form to the beginning of the output, and hands back what

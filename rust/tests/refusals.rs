@@ -1,6 +1,6 @@
 //! Every refusal with its number and words, and what a refusal leaves alone.
 
-use capstanbar::{read, Refusal, Table, LINK_SLOTS, PARAM_SLOTS};
+use capstanbar::{decode, read, Refusal, Table, LINK_SLOTS, PARAM_SLOTS};
 
 #[test]
 fn numbers_and_words() {
@@ -15,6 +15,7 @@ fn numbers_and_words() {
         (Refusal::NoSuchLink, "no such link"),
         (Refusal::NotFound, "not found"),
         (Refusal::UnknownEdition, "unknown edition"),
+        (Refusal::BadExtended, "wrong extended value"),
     ];
     for (number, (refusal, words)) in (1..).zip(all) {
         assert_eq!(refusal.number(), number);
@@ -49,5 +50,10 @@ fn output_is_left_alone() {
     assert_eq!(table.value(0, 0, &mut out), Err(Refusal::NoOutputRoom));
     assert_eq!(table.value(0, 1, &mut out), Err(Refusal::NotFound));
     assert_eq!(table.value(2, 0, &mut out), Err(Refusal::NoSuchLink));
+    assert_eq!(table.title(0, &mut out), Err(Refusal::NotFound));
+    assert_eq!(table.title(2, &mut out), Err(Refusal::NoSuchLink));
+    assert_eq!(decode(b"UTF-8''ab%", &mut out), Err(Refusal::BadExtended));
+    assert_eq!(decode(b"UTF-8''abcd", &mut out), Err(Refusal::NoOutputRoom));
+    assert_eq!(decode(&[b'a'; 8193], &mut out), Err(Refusal::TooLong));
     assert_eq!(out, [9; 3]);
 }

@@ -35,8 +35,11 @@ static size_t number_at(size_t i)
     return i < WIDE * EACH ? wide[i / EACH] + i % EACH : SIZE_MAX - (i - WIDE * EACH);
 }
 
-/* All that is lent: a table's text and slots, and the output of a value and of a written form. */
-static struct { size_t links[LINK_SLOTS], params[PARAM_SLOTS]; uint8_t text[OCTETS], value[OCTETS], form[OCTETS]; } lent, before;
+/* All that is lent: a table's text and slots, and the output of a value, of a title and of a written form. */
+static struct {
+    size_t links[LINK_SLOTS], params[PARAM_SLOTS];
+    uint8_t text[OCTETS], value[OCTETS], title[OCTETS], form[OCTETS];
+} lent, before;
 
 static int failures;
 
@@ -54,6 +57,7 @@ static void fill(const char *text)
     for (size_t i = 0; i < LINK_SLOTS; i++) lent.links[i] = UNUSED;
     for (size_t i = 0; i < PARAM_SLOTS; i++) lent.params[i] = UNUSED;
     memset(lent.value, UNUSED, OCTETS);
+    memset(lent.title, UNUSED, OCTETS);
     memset(lent.form, UNUSED, OCTETS);
 }
 
@@ -91,11 +95,12 @@ static void test_read(size_t edition, size_t row)
     expect(memcmp(&r, &due, sizeof r) == 0 && untouched(), "read in parts", text, rows[row].code);
 }
 
-/* What the functions answer of a table: asked for `b`, and for the first link, its context and its first value. */
-typedef struct { capstan_search_answer search; capstan_context_answer context; capstan_length_answer value, write; } asked;
+/* What the functions answer of a table: asked for `b`, and for the first link, its context, its first value and its title. */
+typedef struct { capstan_search_answer search; capstan_context_answer context; capstan_length_answer value, title, write; } asked;
 
 static const asked bad = {
     { CAPSTAN_BAD_TABLE, 0 }, { CAPSTAN_BAD_TABLE, CAPSTAN_NO_SOURCE, 0, 0 }, { CAPSTAN_BAD_TABLE, 0 }, { CAPSTAN_BAD_TABLE, 0 },
+    { CAPSTAN_BAD_TABLE, 0 },
 };
 
 static asked ask(size_t edition, size_t len, size_t links, size_t params)
@@ -108,19 +113,30 @@ static asked ask(size_t edition, size_t len, size_t links, size_t params)
                                 links, params, 0);
     a.value = capstan_value(edition, lent.text, len, lent.links, LINK_SLOTS, lent.params, PARAM_SLOTS, links, params, 0, 0, lent.value,
                             OCTETS);
+    a.title = capstan_title(edition, lent.text, len, lent.links, LINK_SLOTS, lent.params, PARAM_SLOTS, links, params, 0, lent.title,
+                            OCTETS);
     a.write = capstan_write(edition, lent.text, len, lent.links, LINK_SLOTS, lent.params, PARAM_SLOTS, links, params, lent.form, OCTETS);
     return a;
 }
 
-/* What is due of a link with that one parameter, whose value is `b` at that place. */
+/* What is due of a link with that one parameter, whose value is `b` at that place: a title, but no right extended value. */
 static asked due_of(size_t code, size_t place)
 {
-    const asked other = { { CAPSTAN_NOT_FOUND, 0 }, { CAPSTAN_DONE, CAPSTAN_BASE, 0, 4 }, { CAPSTAN_DONE, 1 }, { CAPSTAN_NO_RELATION, 0 } };
-    const asked rel = { { CAPSTAN_DONE, 0 }, { CAPSTAN_DONE, CAPSTAN_BASE, 0, 4 }, { CAPSTAN_DONE, 1 }, { CAPSTAN_DONE, 10 } };
-    const asked anchor = { { CAPSTAN_NOT_FOUND, 0 }, { CAPSTAN_DONE, CAPSTAN_TEXT, place, place + 1 }, { CAPSTAN_DONE, 1 },
-                           { CAPSTAN_NO_RELATION, 0 } };
+    asked due = { { CAPSTAN_NOT_FOUND, 0 }, { CAPSTAN_DONE, CAPSTAN_BASE, 0, 4 }, { CAPSTAN_DONE, 1 }, { CAPSTAN_NOT_FOUND, 0 },
+                  { CAPSTAN_NO_RELATION, 0 } };
+    const capstan_search_answer found = { CAPSTAN_DONE, 0 };
+    const capstan_context_answer anchor = { CAPSTAN_DONE, CAPSTAN_TEXT, place, place + 1 };
+    const capstan_length_answer title = { CAPSTAN_DONE, 1 }, written = { CAPSTAN_DONE, 10 };
 
-    return code == CAPSTAN_REL ? rel : code == CAPSTAN_ANCHOR ? anchor : other;
+    if (code == CAPSTAN_REL) {
+        due.search = found;
+        due.write = written;
+    }
+    if (code == CAPSTAN_ANCHOR)
+        due.context = anchor;
+    if (code == CAPSTAN_TITLE)
+        due.title = title;
+    return due;
 }
 
 /* A table of one link and one parameter, made by hand, with each number for its code. */
@@ -168,7 +184,7 @@ static void test_each_record(size_t edition)
         const asked a = ask(edition, len, r.links, r.params);
         if (number == codes[param])
             expect(a.search.number == CAPSTAN_DONE && a.context.number == CAPSTAN_DONE && a.value.number == CAPSTAN_DONE
-                       && a.write.number == CAPSTAN_NO_RELATION,
+                       && a.title.number == CAPSTAN_DONE && lent.title[0] == 'c' && a.write.number == CAPSTAN_NO_RELATION,
                    "a good table of two links", text, number);
         else
             expect(memcmp(&a, &bad, sizeof a) == 0 && untouched(), "a bad table of two links", text, number);

@@ -32,6 +32,25 @@ static bool parts_hold(const std::string &header, const capstan_read_answer &who
         && std::memcmp(buffer.data(), header.data(), header.size()) == 0;
 }
 
+// A title is what the decoder gives of its extended value.
+static bool titles_hold()
+{
+    const std::string header = "<a>;title*=UTF-8'de'%c3%a4";
+    const std::string title = "\xC3\xA4";
+    std::vector<std::size_t> links(CAPSTAN_LINK_SLOTS), params(CAPSTAN_PARAM_SLOTS);
+    std::vector<std::uint8_t> told(title.size()), decoded(title.size());
+
+    const auto r = capstan_read(CAPSTAN_RFC8288, octets(header), header.size(), links.data(), links.size(), params.data(),
+                                params.size());
+    const auto t = capstan_title(CAPSTAN_RFC8288, octets(header), header.size(), links.data(), links.size(), params.data(),
+                                 params.size(), r.links, r.params, 0, told.data(), told.size());
+    const auto d = capstan_decode(octets(header) + params[2], params[3] - params[2], decoded.data(), decoded.size());
+    const auto wrong = capstan_decode(octets(header), header.size(), decoded.data(), decoded.size());
+    return t.number == CAPSTAN_DONE && t.length == title.size() && d.number == CAPSTAN_DONE && d.length == title.size()
+        && told == decoded && std::memcmp(told.data(), title.data(), title.size()) == 0 && wrong.number == CAPSTAN_BAD_EXTENDED
+        && wrong.length == 0;
+}
+
 int main()
 {
     const std::string header = "</packs/8>; rel=\"next\"";
@@ -59,7 +78,7 @@ int main()
         && c.number == CAPSTAN_DONE && c.source == CAPSTAN_BASE && c.start == 0 && c.end == base.size() && v.number == CAPSTAN_DONE
         && v.length == relation.size() && std::memcmp(out.data(), relation.data(), v.length) == 0 && w.number == CAPSTAN_DONE
         && w.length == form.size() && std::memcmp(written.data(), form.data(), w.length) == 0 && code == CAPSTAN_REL
-        && params.back() == code && alike.same == 1 && alike.pairs == name.size() && parts_hold(header, r, links, params);
+        && params.back() == code && alike.same == 1 && alike.pairs == name.size() && parts_hold(header, r, links, params) && titles_hold();
     if (!holds)
         std::puts("header.cpp: an answer is not the one expected");
     return holds ? 0 : 1;

@@ -157,7 +157,9 @@ static void test_table(size_t edition, const char *target, int right)
     const capstan_length_answer v = capstan_value(edition, octets(text), len, links, LINK_SLOTS, params, PARAM_SLOTS, 2, 2, 0, 0, value,
                                                   OCTETS);
     const capstan_length_answer w = capstan_write(edition, octets(text), len, links, LINK_SLOTS, params, PARAM_SLOTS, 2, 2, out, OCTETS);
+    const capstan_length_answer t = capstan_title(edition, octets(text), len, links, LINK_SLOTS, params, PARAM_SLOTS, 2, 2, 0, out, OCTETS);
     const size_t number = right ? CAPSTAN_DONE : CAPSTAN_BAD_TABLE;
+    expect(t.number == (right ? CAPSTAN_NOT_FOUND : CAPSTAN_BAD_TABLE) && t.length == 0, "its title", text, edition, 0);
     expect(s.number == number && c.number == number && v.number == number && w.number == number, "a table", text, edition, 0);
     expect(s.link == 0 && c.end == (right ? 4 : 0) && v.length == (size_t)right, "what a table is asked", text, edition, 0);
     expect(w.length == (right ? strlen(form) : 0) && memcmp(out, form, w.length) == 0, "what is written", text, edition, 0);

@@ -163,6 +163,64 @@ static void test_value(void)
     expect_kept(0, 0, 4, "value: just room enough");
 }
 
+/* The link has both titles, and the one behind it none. */
+static const char titled[] = "<a>;title*=UTF-8''%C3%A4b;title=c,<d>";
+enum { TITLED_LEN = sizeof titled - 1 };
+
+static void read_titled(void)
+{
+    fill();
+    capstan_read_answer r = capstan_read(edition, octets(titled), TITLED_LEN, links, LINK_SLOTS, params, PARAM_SLOTS);
+    expect(r.number == CAPSTAN_DONE && r.links == 2 && r.params == 2, "the titles are read");
+    keep();
+}
+
+static void title_refused(const uint8_t *text, size_t len, size_t param_count, size_t link, size_t out_len, size_t number,
+                          const char *what)
+{
+    capstan_length_answer t = capstan_title(edition, text, len, links, LINK_SLOTS, params, PARAM_SLOTS, 2, param_count, link, out,
+                                            out_len);
+    expect(t.number == number && t.length == 0, what);
+    expect_kept(0, 0, 0, what);
+}
+
+static void test_title(void)
+{
+    read_titled();
+    title_refused(long_text, sizeof long_text, 2, 0, OCTETS, CAPSTAN_TOO_LONG, "title: 8,193 octets");
+    title_refused(octets(titled), TITLED_LEN, 1, 0, OCTETS, CAPSTAN_BAD_TABLE, "title: a parameter fewer");
+    title_refused(octets(titled), TITLED_LEN, 2, 2, OCTETS, CAPSTAN_NO_SUCH_LINK, "title: no such link");
+    title_refused(octets(titled), TITLED_LEN, 2, SIZE_MAX, 0, CAPSTAN_NO_SUCH_LINK, "title: the last number");
+    title_refused(octets(titled), TITLED_LEN, 2, 1, 0, CAPSTAN_NOT_FOUND, "title: none");
+    title_refused(octets(titled), TITLED_LEN, 2, 0, 2, CAPSTAN_NO_OUTPUT_ROOM, "title: room for the plain one alone");
+
+    capstan_length_answer t = capstan_title(edition, octets(titled), TITLED_LEN, links, LINK_SLOTS, params, PARAM_SLOTS, 2, 2, 0, out, 3);
+    expect(t.number == CAPSTAN_DONE && t.length == 3 && memcmp(out, "\303\244b", 3) == 0, "title: just room enough");
+    expect_kept(0, 0, 3, "title: just room enough");
+}
+
+static void decode_refused(const uint8_t *value, size_t len, size_t out_len, size_t number, const char *what)
+{
+    capstan_length_answer d = capstan_decode(value, len, out, out_len);
+    expect(d.number == number && d.length == 0, what);
+    expect_kept(0, 0, 0, what);
+}
+
+static void test_decode(void)
+{
+    fill();
+    keep();
+    decode_refused(long_text, sizeof long_text, OCTETS, CAPSTAN_TOO_LONG, "decode: 8,193 octets");
+    decode_refused(long_text, CAPSTAN_LIMIT, 0, CAPSTAN_BAD_EXTENDED, "decode: 8,192 commas");
+    decode_refused(octets("UTF-8''ab%"), 10, OCTETS, CAPSTAN_BAD_EXTENDED, "decode: wrong at its end");
+    decode_refused(octets("UTF-8''ab%c3"), 12, 1, CAPSTAN_BAD_EXTENDED, "decode: wrong, and no room");
+    decode_refused(octets("UTF-8''a%42"), 11, 1, CAPSTAN_NO_OUTPUT_ROOM, "decode: room for one octet");
+
+    capstan_length_answer d = capstan_decode(octets("UTF-8''a%42"), 11, out, 2);
+    expect(d.number == CAPSTAN_DONE && d.length == 2 && memcmp(out, "aB", 2) == 0, "decode: just room enough");
+    expect_kept(0, 0, 2, "decode: just room enough");
+}
+
 static void write_refused(const uint8_t *text, size_t len, size_t link_count, size_t param_count, size_t out_len, size_t number,
                           const char *what)
 {
@@ -413,6 +471,8 @@ static void test_edition(void)
     test_search();
     test_context();
     test_value();
+    test_title();
+    test_decode();
     test_write();
     test_room();
     test_malformed();
@@ -444,11 +504,21 @@ static void test_unknown_edition(size_t unknown)
     value_refused(text, HEADER_LEN, 3, 2, 0, OCTETS, CAPSTAN_UNKNOWN_EDITION, "value: an unknown edition, and no such link");
     value_refused(text, HEADER_LEN, 2, 0, 0, OCTETS, CAPSTAN_UNKNOWN_EDITION, "value: an unknown edition, and a bad table");
     value_refused(long_text, sizeof long_text, 3, 0, 0, 0, CAPSTAN_UNKNOWN_EDITION, "value: an unknown edition, and 8,193 octets");
+    title_refused(text, HEADER_LEN, 3, 0, OCTETS, CAPSTAN_UNKNOWN_EDITION, "title: an unknown edition, and none");
+    title_refused(text, HEADER_LEN, 3, 2, OCTETS, CAPSTAN_UNKNOWN_EDITION, "title: an unknown edition, and no such link");
+    title_refused(text, HEADER_LEN, 2, 0, OCTETS, CAPSTAN_UNKNOWN_EDITION, "title: an unknown edition, and a bad table");
+    title_refused(long_text, sizeof long_text, 3, 0, 0, CAPSTAN_UNKNOWN_EDITION, "title: an unknown edition, and 8,193 octets");
     write_refused(text, HEADER_LEN, 2, 3, OCTETS, CAPSTAN_UNKNOWN_EDITION, "write: an unknown edition");
     write_refused(text, HEADER_LEN, 2, 3, 0, CAPSTAN_UNKNOWN_EDITION, "write: an unknown edition, and no room");
     write_refused(text, HEADER_LEN, 2, 2, OCTETS, CAPSTAN_UNKNOWN_EDITION, "write: an unknown edition, and a bad table");
     write_refused(long_text, sizeof long_text, 2, 3, 0, CAPSTAN_UNKNOWN_EDITION, "write: an unknown edition, and 8,193 octets");
     write_refused(octets(""), 0, 0, 0, 0, CAPSTAN_UNKNOWN_EDITION, "write: an unknown edition, and no links");
+
+    edition = CAPSTAN_RFC8288;
+    read_titled();
+    edition = unknown;
+    title_refused(octets(titled), TITLED_LEN, 2, 0, OCTETS, CAPSTAN_UNKNOWN_EDITION, "title: an unknown edition");
+    title_refused(octets(titled), TITLED_LEN, 2, 0, 0, CAPSTAN_UNKNOWN_EDITION, "title: an unknown edition, and no room");
 
     read_refused(text, HEADER_LEN, LINK_SLOTS, PARAM_SLOTS, CAPSTAN_UNKNOWN_EDITION, 0, "read: an unknown edition");
     read_refused(text, HEADER_LEN, 0, 0, CAPSTAN_UNKNOWN_EDITION, 0, "read: an unknown edition, and no room");

@@ -15,6 +15,7 @@ use Rattle.answers.specs.declared.Refusal.the-variants.{
   NoSuchLink,
   NotFound,
   UnknownEdition,
+  BadExtended,
 }
 
 pub no-refusal-is-done : (w : Refusal) → eqb (refusalNumber w) done ≡ false
@@ -27,3 +28,4 @@ no-refusal-is-done NoOutputRoom = refl
 no-refusal-is-done NoSuchLink = refl
 no-refusal-is-done NotFound = refl
 no-refusal-is-done UnknownEdition = refl
+no-refusal-is-done BadExtended = refl

@@ -12,6 +12,7 @@ use Rattle.answers.specs.declared.Refusal.the-variants.{
   NoSuchLink,
   NotFound,
   UnknownEdition,
+  BadExtended,
 }
 
 abbrev pub refusalNumber : Refusal → ℕ
@@ -24,3 +25,4 @@ refusalNumber NoOutputRoom = number.noOutputRoom
 refusalNumber NoSuchLink = number.noSuchLink
 refusalNumber NotFound = number.notFound
 refusalNumber UnknownEdition = number.unknownEdition
+refusalNumber BadExtended = number.badExtended

@@ -9,7 +9,7 @@ pub mod length_answer;
 pub mod read_answer;
 pub mod search_answer;
 
-// The most octets of a header, a text or a written form.
+// The most octets of a header, a text, an extended value or a written form.
 pub const LIMIT: usize = 8192;
 
 // The number of an answer that refuses nothing.
@@ -29,6 +29,7 @@ pub enum Refusal {
     NoSuchLink,
     NotFound,
     UnknownEdition,
+    BadExtended,
 }
 
 impl Refusal {
@@ -45,6 +46,7 @@ impl Refusal {
             Refusal::NoSuchLink => 8,
             Refusal::NotFound => 9,
             Refusal::UnknownEdition => 10,
+            Refusal::BadExtended => 11,
         }
     }
 }

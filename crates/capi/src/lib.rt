@@ -10,9 +10,11 @@ ghost use Rattle.capi.specs.ContextTold.{ContextTold};
 ghost use Rattle.grammar.specs.Kept.{codeOf};
 ghost use Rattle.octets.specs.Fold.{folded, sameFolded, pairsCompared};
 ghost use Rattle.outcomes.specs.Copy.{Copy};
+ghost use Rattle.outcomes.specs.Decode.{Decode};
 ghost use Rattle.outcomes.specs.Feeding.{start, Feeds, Finishes};
 ghost use Rattle.outcomes.specs.Read.{Read};
 ghost use Rattle.outcomes.specs.Search.{Search};
+ghost use Rattle.outcomes.specs.Title.{Titles};
 ghost use Rattle.outcomes.specs.Write.{Write};
 ghost use Rattle.tables.specs.Table.{tableOf};
 use answers::context_answer::ContextNumbers;
@@ -131,6 +133,36 @@ pub extern "C" fn capstan_write(
 {
     let counts = counts_of(link_count, param_count);
     writer::write(edition, text, links, params, counts, out).numbers()
+}
+
+// Writes the title of a link: what its `title*` gives, or its `title` means.
+#[no_mangle]
+pub extern "C" fn capstan_title(
+    edition: usize,
+    text: &[u8],
+    links: &[usize],
+    params: &[usize],
+    link_count: usize,
+    param_count: usize,
+    link: usize,
+    out: &mut [u8],
+) -> LengthNumbers
+    ensures { λ r. ⌜
+        Titles edition
+        (tableOf (now (text .entry)) (now (links .entry)) (now (params .entry)) «link_count» «param_count»)
+        link (now (out .entry)) (lengthOut r (now (out .exit))) ⌝ }
+{
+    let counts = counts_of(link_count, param_count);
+    let number = LinkNumber(link);
+    titles::title(edition, text, links, params, counts, number, out).numbers()
+}
+
+// Writes what one extended value gives.
+#[no_mangle]
+pub extern "C" fn capstan_decode(value: &[u8], out: &mut [u8]) -> LengthNumbers
+    ensures { λ r. ⌜ Decode (now (value .entry)) (now (out .entry)) (lengthOut r (now (out .exit))) ⌝ }
+{
+    titles::decode(value, out).numbers()
 }
 
 // Begins a feeding.

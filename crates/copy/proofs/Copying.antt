@@ -2,13 +2,10 @@
 use Prim.Native.Nat.{ℕ, _+_, _≤_, _<_}
 use native.Mathlib.Omega.{arith}
 use mathlib.Core.Path.{_≡_, sym, ap, _∙_}
-use mathlib.Core.List.{List, _++_}
-use lib.ListN.{length, drop}
+use mathlib.Core.List.{List}
 use Rattle.octets.specs.Editions.{further}
 use Rattle.octets.specs.declared.editions.Edition.the-variants.{Rfc5988}
 use Rattle.grammar.specs.Records.{paramRoom}
-use Rattle.kinds.specs.Put.{Put}
-use Rattle.kinds.proofs.Stores.{sets-front}
 use Rattle.records.specs.Slots.{IsLink, toParam}
 use Rattle.records.specs.declared.LinkRecord.{LinkRecord}
 use Rattle.records.specs.declared.ParamParts.{ParamParts}
@@ -16,11 +13,11 @@ use Rattle.tables.specs.Table.{Table, paramAt, firstOf, countOf}
 use Rattle.tables.specs.Good.{InText, GoodParam}
 use Rattle.tables.specs.Meaning.{valueOf}
 use Rattle.tables.proofs.InGood.{params-slots, good-param}
-use Rattle.outcomes.specs.Number.{done, noOutputRoom}
 use Rattle.outcomes.specs.Usable.{Usable}
-use Rattle.outcomes.specs.Copy.{untouched, meant, Copied, no-room, copied}
+use Rattle.outcomes.specs.Copy.{CopyOut, meant, Copied, no-room, copied}
 use Rattle.values.specs.Rest.{rest}
 use Rattle.values.proofs.Values.{value-meant}
+use Rattle.copy.specs.Room.{InRoom, short, enough}
 
 -- the number of the parameter is in the room, as long as its index is below the count
 module _ {t : Table} (u : Usable Rfc5988 t) {i j : ℕ} (l : i < t .linkCount) {r : LinkRecord} (is : IsLink (t .linkSlots) i r) where
@@ -55,13 +52,7 @@ module _ {t : Table} {i j : ℕ} {p : ParamParts} (w : AtIndex t i j p) where
   is-meant : meant t i j ≡ value
   is-meant = ap (valueOf (t .text)) (sym (w .is)) ∙ value-meant good-there
 
-  pub short-buffer : (out : List ℕ) {n : ℕ} → n ≡ length value → length out < n → Copied t i j out (untouched out noOutputRoom)
-  short-buffer out q k = no-room (w .is-link) (w .is-param) (rw is-meant (rw q at k))
-
-  pub all-copied : {out new : List ℕ} {n at to : ℕ} → n ≡ length value → n ≤ length out → at ≡ 0 → Put out new at to value
-      → Copied t i j out (record { number = done; count = n; buffer = new })
-  all-copied {out} {new} q k z put =
-      let fits : length value ≤ length out = rw q at k in
-      let front : Put out new 0 _ value = rw z at put in
-      let written : new ≡ value ++ drop (length value) out = front .buffer ∙ sets-front out value fits in
-      rw (q, written, sym is-meant) (copied (w .is-link) (w .is-param) (rw is-meant fits))
+  -- what is written of it, if there is room, is the outcome
+  pub in-room-copied : {out : List ℕ} {o : CopyOut} → InRoom out value o → Copied t i j out o
+  in-room-copied (short k) = no-room (w .is-link) (w .is-param) (rw is-meant k)
+  in-room-copied (enough k) = rw (sym is-meant) (copied (w .is-link) (w .is-param) (rw is-meant k))

@@ -1,2 +1,3 @@
 -- Laws of value copy.
+pub mod InRoom
 pub mod Copying

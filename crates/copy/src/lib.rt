@@ -3,19 +3,36 @@ ghost use Rattle.octets.specs.declared.editions.Edition.the-variants.{Rfc5988};
 ghost use Rattle.tables.specs.Table.{tableOf};
 ghost use Rattle.outcomes.specs.Usable.{Usable};
 ghost use Rattle.outcomes.specs.Copy.{Copied, Copy};
+ghost use Rattle.tables.specs.Good.{InText};
 ghost use Rattle.answers.specs.Length.{lengthNumbers, lengthOut};
+ghost use Rattle.values.specs.Rest.{rest};
+ghost use Rattle.copy.specs.Room.{InRoom};
 use answers::Refusal;
 use answers::length_answer::LengthAnswer;
 use kinds::Counts;
 use kinds::LinkNumber;
 use kinds::OutPlace;
+use kinds::Span;
 use table_check::TableState;
 use table_check::state_of;
 use values::copy_meaning;
 use values::meaning_len;
 
-// Measures the meaning of the value, and writes it if there is room. The older edition stands for all: what is good in any of them is
-// good in it.
+// Measures what the part means, and writes it if there is room.
+pub fn copy_part(text: &[u8], part: Span, out: &mut [u8]) -> LengthAnswer
+    requires { ⌜ InText (now text) (part .from .0) (part .to .0) ⌝ }
+    ensures { λ r. ⌜ InRoom (now (out .entry)) (rest (now (text .entry)) (part .to .0) (part .from .0))
+        (lengthOut (lengthNumbers r) (now (out .exit))) ⌝ }
+{
+    let n = meaning_len(text, part);
+    if n > out.len() {
+        return LengthAnswer::Refused(Refusal::NoOutputRoom);
+    }
+    copy_meaning(text, part, out, OutPlace::start());
+    LengthAnswer::Wrote(n)
+}
+
+// Copies the value that the link and the index name. The older edition stands for all: what is good in any of them is good in it.
 fn copy_at(
     text: &[u8],
     links: &[usize],
@@ -38,12 +55,7 @@ fn copy_at(
     }
     let p = records::parts_at(params, l.first.plus(index));
     let part = p.value;
-    let n = meaning_len(text, part);
-    if n > out.len() {
-        return LengthAnswer::Refused(Refusal::NoOutputRoom);
-    }
-    copy_meaning(text, part, out, OutPlace::start());
-    LengthAnswer::Wrote(n)
+    copy_part(text, part, out)
 }
 
 // Writes what the value of the parameter means that stands at `index` within the link, and answers how many octets that is.

@@ -330,4 +330,5 @@ tables-alike =
       context = λ t base i o d n. over-alike d (λ e. n (ap (λ (w : ContextOut). w .number) e));
       copy = λ t i j out o d n. over-alike d (λ e. n (ap (λ (w : CopyOut). w .number) e));
       write = λ t out o d n. over-alike d (λ e. n (ap (λ (w : CopyOut). w .number) e));
+      title = λ t i out o d n. over-alike d (λ e. n (ap (λ (w : CopyOut). w .number) e));
     }

@@ -33,13 +33,13 @@ use Rattle.outcomes.specs.Read
 use Rattle.outcomes.specs.Copy.{untouched, holding}
 use Rattle.outcomes.specs.Search.{Search, has, found}
 use Rattle.outcomes.specs.Write.{Write, writtenForm, relationsAt, Related, no-relation, wrote}
-use Rattle.laws.specs.Row.{Writing, writes, answers, Judgement, reads, malformed, Row, recordedTable, Writes, ReadHolds, Judged, RowHolds}
+use Rattle.laws.specs.Row.{Writing, writes, answers, Judgement, reads, malformed, Row, recordedTable, Writes, Fills, ReadHolds, Judged, RowHolds}
 use Rattle.laws.proofs.References.{areReferences, are-references}
 use Rattle.laws.proofs.Stopped.{read, either, closeOf, stops, unfit, stops-at, unfit-at}
 
 -- ---- the tests
 
-abbrev recorded : List ℕ → List ℕ → List ℕ → Option (List Link) → Bool
+abbrev pub recorded : List ℕ → List ℕ → List ℕ → Option (List Link) → Bool
 recorded h ls ps none = false
 recorded h ls ps (some R) =
     areReferences h R && same (linkRecords 0 (map (keptLink h) R)) ls && same (paramRecords h (map (keptLink h) R)) ps
@@ -75,16 +75,7 @@ regood {extra} {h} {L} {L′} {P} {P′} {n} {n′} {m} {m′} l p c d g =
 
 -- what is known once the records are those of a reading
 pub record KnownRow (ed : Edition) (h ls ps : List ℕ) : Type 0 where
-  pub fills : (L P : List ℕ) → length ls / linkWidth ≤ linkRoom L → length ps / paramWidth ≤ paramRoom P
-      → Read (numberOf ed) h L P
-      (record {
-        number = done;
-        place = 0;
-        links = length ls / linkWidth;
-        params = length ps / paramWidth;
-        linkSlots = ls ++ drop (length ls) L;
-        paramSlots = ps ++ drop (length ps) P;
-      })
+  pub fills : Fills ed h ls ps
   pub may-use : Usable ed (recordedTable h ls ps)
 
 known-row : (ed : Edition) (h : List ℕ) → length h ≤ limit → (K : List Link) → Reading (further ed) h K

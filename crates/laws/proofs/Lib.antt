@@ -3,6 +3,7 @@ pub mod References
 pub mod Stopped
 pub mod Checked
 pub mod Rows
+pub mod Titles
 pub mod Beside
 pub mod Front
 pub mod Inside

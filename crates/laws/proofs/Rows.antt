@@ -111,6 +111,7 @@ is-bad e t short bad =
       context = λ base i. known {e = e} refl (refused (not-good short bad));
       copy = λ i j out. known {e = e} refl (refused (not-good short bad));
       write = λ out. known {e = e} refl (refused (not-good short bad));
+      title = λ i out. known {e = e} refl (refused (not-good short bad));
     }
 
 pub mirror-holds : MirrorHolds

@@ -18,6 +18,7 @@ use Rattle.outcomes.specs.Search.{SearchOut, Search}
 use Rattle.outcomes.specs.Context.{ContextOut, Context}
 use Rattle.outcomes.specs.Copy.{CopyOut, Copy}
 use Rattle.outcomes.specs.Write.{Write}
+use Rattle.outcomes.specs.Title.{Titles}
 
 -- ---- joining
 
@@ -174,3 +175,5 @@ pub record TablesAlike : Type 0 where
       → (o .number ≡ badTable → ⊥) → Copy (numberOf Rfc5988) t i j out o
   pub write : (t : Table) (out : List ℕ) (o : CopyOut) → Write (numberOf Rfc8288) t out o → (o .number ≡ badTable → ⊥)
       → Write (numberOf Rfc5988) t out o
+  pub title : (t : Table) (i : ℕ) (out : List ℕ) (o : CopyOut) → Titles (numberOf Rfc8288) t i out o
+      → (o .number ≡ badTable → ⊥) → Titles (numberOf Rfc5988) t i out o

@@ -19,11 +19,13 @@ use Rattle.outcomes.specs.Context.{of-text, of-base, nothing, Context}
 use Rattle.outcomes.specs.Search.{Search}
 use Rattle.outcomes.specs.Copy.{untouched, holding, Copy}
 use Rattle.outcomes.specs.Write.{Write}
+use Rattle.outcomes.specs.Title.{Titles}
 use Rattle.laws.specs.Row.{recordedTable, RowHolds}
 use Rattle.laws.specs.Marked.{marked}
 use Rattle.laws.specs.Slips.{slips}
 use Rattle.laws.specs.Older.{older, olderRefused}
 use Rattle.laws.specs.References.{references, bareRead, bareRefused, unfitTables}
+use Rattle.laws.specs.Titles.{TitleRowHolds, titles}
 
 abbrev pub third : Table
 third =
@@ -58,6 +60,10 @@ pub record ReferencesHold : Type 0 where
   pub in-older : Each (RowHolds Rfc5988) bareRead
   pub in-newer : Each (RowHolds Rfc8288) bareRefused
 
+-- and so are headers with titles, and what their links answer, in each edition
+abbrev pub TitlesHold : Type 0
+TitlesHold = (e : Edition) → Each (TitleRowHolds e) titles
+
 -- Of the third marked header: the context of its link is the `anchor` value as written, and its values are copied with their octets
 -- alone. Of the fifth: a link without `anchor` has the whole base. So in each edition.
 pub record LookupsHold (e : Edition) : Type 0 where
@@ -76,6 +82,7 @@ pub record IsBad (e : Edition) (t : Table) : Type 0 where
   pub context : (base : List ℕ) (i : ℕ) → Context (numberOf e) t base i (nothing badTable)
   pub copy : (i j : ℕ) (out : List ℕ) → Copy (numberOf e) t i j out (untouched out badTable)
   pub write : (out : List ℕ) → Write (numberOf e) t out (untouched out badTable)
+  pub title : (i : ℕ) (out : List ℕ) → Titles (numberOf e) t i out (untouched out badTable)
 
 -- Of a table with values of form 3: the older edition hands out their octets as they stand, and in RFC 8288's the table is not good.
 pub record MirrorHolds : Type 0 where

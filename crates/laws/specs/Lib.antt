@@ -4,6 +4,7 @@ pub mod Marked
 pub mod Slips
 pub mod Older
 pub mod References
+pub mod Titles
 pub mod Answers
 pub mod Feedings
 pub mod Laws

@@ -39,17 +39,21 @@ module _ (e : Edition) where
   Writes t (answers n) = (out : List ℕ) → Write (numberOf e) t out (untouched out n)
 
   -- in any tables with room reading fills in the records, and leaves the slots behind them as they were
+  abbrev pub Fills : List ℕ → List ℕ → List ℕ → Type 0
+  Fills h ls ps =
+      (L P : List ℕ) → length ls / linkWidth ≤ linkRoom L → length ps / paramWidth ≤ paramRoom P
+      → Read (numberOf e) h L P
+      (record {
+        number = done;
+        place = 0;
+        links = length ls / linkWidth;
+        params = length ps / paramWidth;
+        linkSlots = ls ++ drop (length ls) L;
+        paramSlots = ps ++ drop (length ps) P;
+      })
+
   pub record ReadHolds (h ls ps : List ℕ) (qs : List (List ℕ)) (w : Writing) : Type 0 where
-    pub fills : (L P : List ℕ) → length ls / linkWidth ≤ linkRoom L → length ps / paramWidth ≤ paramRoom P
-        → Read (numberOf e) h L P
-        (record {
-          number = done;
-          place = 0;
-          links = length ls / linkWidth;
-          params = length ps / paramWidth;
-          linkSlots = ls ++ drop (length ls) L;
-          paramSlots = ps ++ drop (length ps) P;
-        })
+    pub fills : Fills h ls ps
     pub has : Each (λ (q : List ℕ). Search (numberOf e) (recordedTable h ls ps) q (record { number = done; link = 0 })) qs
     pub writing : Writes (recordedTable h ls ps) w
 

@@ -1,7 +1,7 @@
 // Laws over all the definitions, held by the gate: each function promises one statement of specs/ and does nothing.
 ghost use Rattle.octets.specs.declared.editions.Edition.{Edition};
 ghost use Rattle.laws.specs.Laws.{MarkedHold, SlipsHold, OlderHold, ReferencesHold, LookupsHold, MirrorHolds};
-ghost use Rattle.laws.specs.Laws.{CodesAsked, TargetsAsked, PremiseNeeded};
+ghost use Rattle.laws.specs.Laws.{TitlesHold, CodesAsked, TargetsAsked, PremiseNeeded};
 ghost use Rattle.laws.specs.Answers.{JoinAnswers, JoinRefuses, BackAnswers, WrittenApart, ReadsAlike, TablesAlike};
 ghost use Rattle.laws.specs.Feedings.{FinishReads, CutsDontMatter, FinishAgain, CutShortFinishes, FeedAnswers, FeedTells};
 ghost use Rattle.laws.specs.Feedings.{TargetsTold, PlaceStays, TooLongForGood, OneAnswer, UnknownForGood};
@@ -24,6 +24,11 @@ pub fn older_hold()
 // So are headers whose targets are references or none.
 pub fn references_hold()
     ensures { λ _. ⌜ ReferencesHold ⌝ }
+{}
+
+// So are headers with titles, and what their links answer.
+pub fn titles_hold()
+    ensures { λ _. ⌜ TitlesHold ⌝ }
 {}
 
 // Contexts and copied values of two marked headers.

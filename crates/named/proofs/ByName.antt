@@ -43,3 +43,9 @@ module _ (s P : List ℕ) where
 
     pub by-anchor : named s (octets "anchor") ((toLink P l) .params) ≡ coded P 2 (l .first .0) (l .count)
     by-anchor = by-code (octets "anchor") (codes .anchor) (λ q. omega arith) (l .first .0) (l .count) (h .codes)
+
+    pub by-title : named s (octets "title") ((toLink P l) .params) ≡ coded P 4 (l .first .0) (l .count)
+    by-title = by-code (octets "title") (codes .title) (λ q. omega arith) (l .first .0) (l .count) (h .codes)
+
+    pub by-title* : named s (octets "title*") ((toLink P l) .params) ≡ coded P 5 (l .first .0) (l .count)
+    by-title* = by-code (octets "title*") (codes .title*) (λ q. omega arith) (l .first .0) (l .count) (h .codes)

@@ -10,10 +10,14 @@ use folding::compare;
 use kinds::Place;
 use kinds::Span;
 
-// The codes of the names that are asked for: `rel` and `anchor`.
+// The codes of the names that are asked for: `rel`, `anchor`, `title` and `title*`.
 pub const REL: usize = 1;
 
 pub const ANCHOR: usize = 2;
+
+pub const TITLE: usize = 4;
+
+pub const TITLE_STAR: usize = 5;
 
 // The bits of the codes of names kept once, 1 to 6.
 const ONCE: u32 = 126;

@@ -1,10 +1,8 @@
 -- Asking for a link's context has one outcome.
 use Prim.Native.Nat.{ℕ}
-use native.Mathlib.Omega.{arith}
 use mathlib.Core.Path.{_≡_, refl, ap, _∙_}
-use mathlib.Core.Logic.{_⊎_, inl, inr}
 use mathlib.Core.List.{List}
-use mathlib.Core.Option.{Option, none, some}
+use mathlib.Core.Option.{none, some}
 use lib.ListN.{length}
 use Rattle.grammar.specs.Link.{Param}
 use Rattle.tables.specs.Table.{Table}
@@ -13,17 +11,8 @@ use Rattle.outcomes.specs.Context.{of-text, of-base, ContextOut, anchor,
 use Rattle.outcomes.specs.Context.{anchored, unanchored}
 use Rattle.outcomes.specs.Laws.{Settled, ContextSettled}
 use Rattle.outcomes.proofs.Cases.{Branch, this, that, Order, only, branch, order, settled}
+use Rattle.outcomes.proofs.Options.{some-or-none, not-none, same-some}
 use Rattle.outcomes.proofs.Usable.{over-settled}
-
-some-or-none : {A : Type 0} (x : Option A) → ((a : A) × (x ≡ some a)) ⊎ (x ≡ none)
-some-or-none (some a) = inl (a, refl)
-some-or-none none = inr refl
-
-not-none : {A : Type 0} {x : Option A} {a : A} → x ≡ some a → x ≡ none → ⊥
-not-none e n = let z : _≡_ {A = ℕ} 0 1 = cc in omega arith
-
-same-some : {A : Type 0} {x : Option A} {a b : A} → x ≡ some a → x ≡ some b → a ≡ b
-same-some e f = cc
 
 abbrev span : Param → ContextOut
 span p = record { number = done; source = of-text; start = p .valueFrom; end = p .valueTo }

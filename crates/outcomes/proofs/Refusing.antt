@@ -15,6 +15,8 @@ use Rattle.outcomes.specs.Search as Searching
 use Rattle.outcomes.specs.Context as Contexts
 use Rattle.outcomes.specs.Copy as Copying
 use Rattle.outcomes.specs.Write as Writing
+use Rattle.outcomes.specs.Title as Titles
+use Rattle.outcomes.specs.Decode as Decoding
 use Rattle.outcomes.specs.Feed as Feeds
 use Rattle.outcomes.specs.Laws.{ReadKeeps, CopyKeeps, FeedKeeps, Refusals, UnknownRefused}
 use Rattle.outcomes.proofs.InEdition.{in-any, in-unknown}
@@ -80,6 +82,18 @@ wrote t out _ (Writing.long-form r l) = untouched out 1 (λ e. omega arith)
 wrote t out _ (Writing.no-room r h l) = untouched out 7 (λ e. omega arith)
 wrote t out _ (Writing.wrote r h k) = holding out (Writing.writtenForm t)
 
+titled : (t : Table) (i : ℕ) (out : List ℕ) (o : Copying.CopyOut) → Titles.Titled t i out o → CopyKeeps out o
+titled t i out _ (Titles.no-such-link h) = untouched out 8 (λ e. omega arith)
+titled t i out _ (Titles.untitled h u) = untouched out 9 (λ e. omega arith)
+titled t i out _ (Titles.no-room h x l) = untouched out 7 (λ e. omega arith)
+titled t i out _ (Titles.titled {v = v} h x l) = holding out v
+
+decoded : (w out : List ℕ) (o : Copying.CopyOut) → Decoding.Decode w out o → CopyKeeps out o
+decoded w out _ (Decoding.too-long l) = untouched out 1 (λ e. omega arith)
+decoded w out _ (Decoding.wrong h n) = untouched out 11 (λ e. omega arith)
+decoded w out _ (Decoding.no-room h x l) = untouched out 7 (λ e. omega arith)
+decoded w out _ (Decoding.gives {v = v} h x l) = holding out v
+
 -- a feed that is refused with a number that is no 2
 unstored : (buffer : List ℕ) (n : ℕ) → (n ≡ done → ⊥) → FeedKeeps buffer (Feeds.unstored buffer n 0)
 unstored buffer n z = record { refused = λ _. refl; place = λ _. refl }
@@ -102,6 +116,8 @@ refusals =
       context = λ n t base i. over-any (λ o. (o .number ≡ done → ⊥) → o ≡ Contexts.nothing (o .number)) (λ k z n. refl) (found t base i);
       copy = λ n t i j out. over-any (CopyKeeps out) (untouched out) (copied t i j out);
       write = λ n t out. over-any (CopyKeeps out) (untouched out) (wrote t out);
+      title = λ n t i out. over-any (CopyKeeps out) (untouched out) (titled t i out);
+      decode = decoded;
       feed = λ n fed part buffer. in-any (FeedKeeps buffer) (unstored buffer 10 (λ e. omega arith)) (λ e. feed-in e fed part buffer);
       finish = λ n fed buffer L P. in-any (ReadKeeps L P) (unknown L P) (λ e. finish-in e fed buffer L P);
     }
@@ -114,6 +130,7 @@ unknown-refused =
       context = λ n z t base i o d. in-unknown z d;
       copy = λ n z t i j out o d. in-unknown z d;
       write = λ n z t out o d. in-unknown z d;
+      title = λ n z t i out o d. in-unknown z d;
       feed = λ st next z part buffer o d. (ap (λ w. w .0) (in-unknown z d), ap (λ w. w .1) (in-unknown z d));
       finish = λ st z buffer L P o d. in-unknown z d;
     }

@@ -7,10 +7,10 @@ use lib.ListN.{length}
 use lib.Seq.{slice}
 use Rattle.octets.specs.Text.{octets}
 use Rattle.grammar.specs.Link.{Param}
-use Rattle.tables.specs.Table.{Table, linkAt}
-use Rattle.tables.specs.Relation.{named}
+use Rattle.tables.specs.Table.{Table}
 use Rattle.outcomes.specs.Number.{done, noSuchLink}
 use Rattle.outcomes.specs.Usable.{OverTable}
+use Rattle.outcomes.specs.Kept.{kept}
 
 -- where the part handed back lies
 pub data Source : Type 0 where
@@ -32,7 +32,7 @@ contextOctets text base o = elim (o .source) [ of-text ↦ slice (o .start) (o .
 
 -- the `anchor` parameter of link number i, if it has one
 abbrev pub anchor : Table → ℕ → Option Param
-anchor t i = named (t .text) (octets "anchor") ((linkAt (t .linkSlots) (t .paramSlots) i) .params)
+anchor t i = kept t i (octets "anchor")
 
 -- the table t, if it may be used, the caller's base and link number i
 module _ (t : Table) (base : List ℕ) (i : ℕ) where

@@ -13,6 +13,8 @@ use Rattle.outcomes.specs.Search.{SearchOut, Search}
 use Rattle.outcomes.specs.Context.{ContextOut, nothing, Context}
 use Rattle.outcomes.specs.Copy.{CopyOut, untouched, Copy}
 use Rattle.outcomes.specs.Write.{Write}
+use Rattle.outcomes.specs.Title.{Titles}
+use Rattle.outcomes.specs.Decode.{Decode}
 use Rattle.outcomes.specs.Feed.{FeedOut, unstored, Feed, Finish}
 use Rattle.outcomes.specs.Feeding.{Feeding, start, Holds, Feeds, Finishes}
 
@@ -45,6 +47,8 @@ pub record Refusals : Type 0 where
       → (o .number ≡ done → ⊥) → o ≡ nothing (o .number)
   pub copy : (n : ℕ) (t : Table) (i j : ℕ) (out : List ℕ) (o : CopyOut) → Copy n t i j out o → CopyKeeps out o
   pub write : (n : ℕ) (t : Table) (out : List ℕ) (o : CopyOut) → Write n t out o → CopyKeeps out o
+  pub title : (n : ℕ) (t : Table) (i : ℕ) (out : List ℕ) (o : CopyOut) → Titles n t i out o → CopyKeeps out o
+  pub decode : (w out : List ℕ) (o : CopyOut) → Decode w out o → CopyKeeps out o
   pub feed : (n : ℕ) (fed part buffer : List ℕ) (o : FeedOut) → Feed n fed part buffer o → FeedKeeps buffer o
   pub finish : (n : ℕ) (fed buffer L P : List ℕ) (o : ReadOut) → Finish n fed buffer L P o → ReadKeeps L P o
 
@@ -59,6 +63,8 @@ pub record UnknownRefused : Type 0 where
   pub copy : (n : ℕ) → NoEdition n → (t : Table) (i j : ℕ) (out : List ℕ) (o : CopyOut) → Copy n t i j out o
       → o ≡ untouched out unknownEdition
   pub write : (n : ℕ) → NoEdition n → (t : Table) (out : List ℕ) (o : CopyOut) → Write n t out o
+      → o ≡ untouched out unknownEdition
+  pub title : (n : ℕ) → NoEdition n → (t : Table) (i : ℕ) (out : List ℕ) (o : CopyOut) → Titles n t i out o
       → o ≡ untouched out unknownEdition
   pub feed : (st next : Feeding) → NoEdition (st .edition) → (part buffer : List ℕ) (o : FeedOut)
       → Feeds st part buffer o next → (o ≡ unstored buffer unknownEdition 0) × (next ≡ st)
@@ -79,6 +85,12 @@ CopySettled = (n : ℕ) (t : Table) (i j : ℕ) (out : List ℕ) → Settled (Co
 
 abbrev pub WriteSettled : Type 0
 WriteSettled = (n : ℕ) (t : Table) (out : List ℕ) → Settled (Write n t out)
+
+abbrev pub TitleSettled : Type 0
+TitleSettled = (n : ℕ) (t : Table) (i : ℕ) (out : List ℕ) → Settled (Titles n t i out)
+
+abbrev pub DecodeSettled : Type 0
+DecodeSettled = (w out : List ℕ) → Settled (Decode w out)
 
 abbrev pub FeedSettled : Type 0
 FeedSettled = (n : ℕ) (fed part buffer : List ℕ) → Settled (Feed n fed part buffer)

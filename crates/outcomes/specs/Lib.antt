@@ -2,11 +2,14 @@
 pub mod Number
 pub mod InEdition
 pub mod Usable
+pub mod Kept
 pub mod Read
 pub mod Search
 pub mod Context
 pub mod Copy
 pub mod Write
+pub mod Title
+pub mod Decode
 pub mod Feed
 pub mod Feeding
 pub mod Laws

@@ -5,7 +5,7 @@ use Prim.Native.Nat.{ℕ}
 abbrev pub done : ℕ
 done = 0
 
--- the header, all feeds together, the text or the written form have more octets than the limit
+-- the header, all feeds together, the text, the extended value or the written form have more octets than the limit
 abbrev pub tooLong : ℕ
 tooLong = 1
 
@@ -37,7 +37,7 @@ noOutputRoom = 7
 abbrev pub noSuchLink : ℕ
 noSuchLink = 8
 
--- no such parameter, or no link has the relation
+-- no such parameter, no title, or no link has the relation
 abbrev pub notFound : ℕ
 notFound = 9
 
@@ -45,6 +45,10 @@ notFound = 9
 abbrev pub unknownEdition : ℕ
 unknownEdition = 10
 
--- the most octets of a header, a text or a written form, and the least of a gathering buffer
+-- no right extended value
+abbrev pub badExtended : ℕ
+badExtended = 11
+
+-- the most octets of a header, a text, an extended value or a written form, and the least of a gathering buffer
 abbrev pub limit : ℕ
 limit = 8192

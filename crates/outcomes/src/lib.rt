@@ -1,6 +1,6 @@
 // The laws of the outcomes, held by the gate: each function promises one statement of specs/Laws.antt and does nothing.
 ghost use Rattle.outcomes.specs.Laws.{Refusals, ReadSettled, SearchSettled, ContextSettled, CopySettled, WriteSettled};
-ghost use Rattle.outcomes.specs.Laws.{UnknownRefused, FeedSettled, FinishSettled, StartHolds};
+ghost use Rattle.outcomes.specs.Laws.{UnknownRefused, TitleSettled, DecodeSettled, FeedSettled, FinishSettled, StartHolds};
 
 // A refusal answers zeros and changes nothing lent, and success keeps what stands behind.
 pub fn refusals()
@@ -35,6 +35,16 @@ pub fn copy_settled()
 // Writing a table has one outcome.
 pub fn write_settled()
     ensures { λ _. ⌜ WriteSettled ⌝ }
+{}
+
+// Asking for a link's title has one outcome.
+pub fn title_settled()
+    ensures { λ _. ⌜ TitleSettled ⌝ }
+{}
+
+// Decoding an extended value has one outcome.
+pub fn decode_settled()
+    ensures { λ _. ⌜ DecodeSettled ⌝ }
 {}
 
 // A feed has one outcome.

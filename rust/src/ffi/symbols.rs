@@ -76,6 +76,26 @@ extern "C" {
         out: *mut u8,
         out_len: usize,
     ) -> LengthAnswer;
+    pub fn capstan_title(
+        edition: usize,
+        text: *const u8,
+        text_len: usize,
+        links: *const usize,
+        link_slots: usize,
+        params: *const usize,
+        param_slots: usize,
+        link_count: usize,
+        param_count: usize,
+        link: usize,
+        out: *mut u8,
+        out_len: usize,
+    ) -> LengthAnswer;
+    pub fn capstan_decode(
+        value: *const u8,
+        value_len: usize,
+        out: *mut u8,
+        out_len: usize,
+    ) -> LengthAnswer;
     pub fn capstan_write(
         edition: usize,
         text: *const u8,

@@ -6,13 +6,7 @@ use capstanbar::{Counts, Edition, Refusal, Table};
 const OUT: [u8; 64] = [7; 64];
 
 /// What the functions answer, and the output behind them.
-type Asked = (
-    SearchAnswer,
-    ContextAnswer,
-    LengthAnswer,
-    LengthAnswer,
-    [u8; 64],
-);
+type Asked = (SearchAnswer, ContextAnswer, [LengthAnswer; 3], [u8; 64]);
 
 /// What is due of a bad table: nothing is told but the number, and nothing put out.
 const BAD: Asked = (
@@ -23,14 +17,10 @@ const BAD: Asked = (
         start: 0,
         end: 0,
     },
-    LengthAnswer {
+    [LengthAnswer {
         number: 5,
         length: 0,
-    },
-    LengthAnswer {
-        number: 5,
-        length: 0,
-    },
+    }; 3],
     OUT,
 );
 
@@ -39,8 +29,11 @@ fn asked(edition: usize, raw: RawTable) -> Asked {
     (
         ffi::search(edition, raw, b"x"),
         ffi::context(edition, raw, b"x", 0),
-        ffi::value(edition, raw, 0, 0, &mut out),
-        ffi::write(edition, raw, &mut out),
+        [
+            ffi::value(edition, raw, 0, 0, &mut out),
+            ffi::title(edition, raw, 0, &mut out),
+            ffi::write(edition, raw, &mut out),
+        ],
         out,
     )
 }
@@ -54,13 +47,9 @@ pub fn view(edition: Edition, raw: RawTable<'_>) -> Option<Table<'_>> {
     let asked = asked(edition.number(), raw);
     match Table::new_in(edition, raw.text, raw.links, raw.params, counts) {
         Ok(table) => {
-            let numbers = [
-                asked.0.number,
-                asked.1.number,
-                asked.2.number,
-                asked.3.number,
-            ];
-            assert!(!numbers.contains(&5), "{numbers:?}");
+            let lengths = asked.2.map(|answer| answer.number);
+            let numbers = [asked.0.number, asked.1.number];
+            assert!(![&numbers[..], &lengths].concat().contains(&5), "{asked:?}");
             Some(table)
         }
         Err(refusal) => {

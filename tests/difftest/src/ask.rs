@@ -7,6 +7,7 @@ use crate::reached::{Entry, In};
 use crate::run::Run;
 use crate::shown::{self, Difference};
 use crate::tables::Tables;
+use crate::titles;
 use crate::view;
 use oracle::number::LIMIT;
 use oracle::{LinkMeaning, PARAM_SLOTS};
@@ -33,6 +34,7 @@ pub fn ask(run: &mut Run, tables: &Tables) -> Compared<()> {
     searches(run, &asked, links)?;
     contexts(run, &asked, links.len())?;
     values(run, &asked, links)?;
+    titles::compare(run, &asked, links)?;
     let form = writes(run, &asked)?;
     asked.unchanged()?;
     if run.numbers.once_in(UNKNOWN) {
@@ -42,6 +44,7 @@ pub fn ask(run: &mut Run, tables: &Tables) -> Compared<()> {
     if meanings.is_some() {
         codes::compare(run, tables)?;
         records(run, tables);
+        titles::count(run, In::of(tables.edition), links);
     }
     match form {
         Some(form) => read_back(run, tables, links, &form),
@@ -58,6 +61,7 @@ fn unknown(run: &mut Run, tables: &Tables) -> Compared<()> {
     asked.search(run, b"next")?;
     asked.context(run, b"http://base/", link)?;
     asked.value(run, link, 0, room)?;
+    asked.title(run, link, room)?;
     asked.write(run, room)?;
     asked.unchanged()
 }

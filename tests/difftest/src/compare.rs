@@ -2,9 +2,11 @@
 
 mod asked;
 mod code;
+mod decode;
 mod equal;
 mod feed;
 mod frame;
+mod output;
 mod read;
 mod reading;
 mod texts;
@@ -12,6 +14,7 @@ mod texts;
 use crate::shown::Difference;
 pub use asked::Asked;
 pub use code::{name_code, name_code_of};
+pub use decode::decode;
 pub use equal::equal;
 pub use feed::{Expected, Fed};
 pub use frame::{feed_any, finish_any};

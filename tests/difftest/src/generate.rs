@@ -2,6 +2,7 @@
 
 pub mod case;
 pub mod edition;
+pub mod extended;
 pub mod header;
 pub mod octets;
 pub mod reference;

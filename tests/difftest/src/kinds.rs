@@ -14,6 +14,7 @@ mod rooms;
 mod short;
 mod stored;
 mod texts;
+mod titles;
 mod valid;
 mod wild;
 
@@ -33,6 +34,7 @@ pub fn fixed(run: &mut Run, deep: bool) -> Compared<()> {
     references::fixed(run, deep)?;
     names::fixed(run)?;
     texts::fixed(run)?;
+    titles::fixed(run, deep)?;
     feeds::fixed(run, deep)
 }
 
@@ -48,6 +50,7 @@ pub fn seeded(run: &mut Run) -> Compared<()> {
     references::seeded(run)?;
     names::seeded(run)?;
     texts::seeded(run)?;
+    titles::seeded(run)?;
     feeds::seeded(run)
 }
 

@@ -18,6 +18,7 @@ mod run;
 mod shown;
 mod state;
 mod tables;
+mod titles;
 mod view;
 
 use args::Args;

@@ -1,6 +1,6 @@
 //! Which numbers each entry answered in each edition, and how often; what became of headers in the
-//! older edition, and of targets by themselves; the forms and codes of records; the codes of names
-//! that a link has again; and how far comparisons went.
+//! older edition, and of targets by themselves; the forms and codes of records; what titles links
+//! have; the codes of names that a link has again; and how far comparisons went.
 
 use crate::generate::edition::{NEWER, OLDER};
 use capstanbar::ffi::CompareAnswer;
@@ -17,11 +17,14 @@ pub enum Entry {
     Search,
     Context,
     Value,
+    Title,
     Write,
     Form,
     Code,
+    Titles,
     Target,
     Editions,
+    Decode,
     NameCode,
     Again,
     Compare,
@@ -66,13 +69,14 @@ type Allowed = &'static [RangeInclusive<usize>];
 const ALL: &[In] = &[In::Newer, In::Older, In::Unknown];
 const ANY: &[In] = &[In::Any];
 
-const ENTRIES: [(Entry, &str, &[In], Allowed); 18] = [
+const ENTRIES: [(Entry, &str, &[In], Allowed); 21] = [
     (Entry::Read, "read", ALL, &[0..=4]),
     (Entry::Feed, "feed", ALL, &[0..=2, 7..=7]),
     (Entry::Finish, "finish", ALL, &[0..=4, 7..=7]),
     (Entry::Search, "search", ALL, &[0..=1, 5..=5, 9..=9]),
     (Entry::Context, "context", ALL, &[0..=1, 5..=5, 8..=8]),
     (Entry::Value, "value", ALL, &[0..=1, 5..=5, 7..=9]),
+    (Entry::Title, "title", ALL, &[0..=1, 5..=5, 7..=9]),
     (
         Entry::Write,
         "write",
@@ -88,6 +92,12 @@ const ENTRIES: [(Entry, &str, &[In], Allowed); 18] = [
         &[0..=LAST_CODE],
     ),
     (
+        Entry::Titles,
+        "links with neither title, title, wrong title*, both, right title*, both",
+        &[In::Newer, In::Older],
+        &[0..=5],
+    ),
+    (
         Entry::Target,
         "targets read, no references, of wrong octets",
         ANY,
@@ -99,6 +109,7 @@ const ENTRIES: [(Entry, &str, &[In], Allowed); 18] = [
         ANY,
         &[0..=3],
     ),
+    (Entry::Decode, "decode", ANY, &[0..=1, 7..=7, 11..=11]),
     (Entry::NameCode, "name_code", ANY, &[0..=LAST_CODE]),
     (
         Entry::Again,

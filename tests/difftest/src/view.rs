@@ -1,6 +1,7 @@
 //! What the crate's view of a table hands out.
 
 mod lookups;
+mod titles;
 
 use crate::compare::{equal, Compared};
 use crate::generate::edition::NEWER;
@@ -10,7 +11,7 @@ use capstanbar::{Counts, Edition, Table};
 use oracle::LinkMeaning;
 
 /// The view is there exactly of tables that are good in their edition, of texts that aren't too long;
-/// it hands out the records' octets, and finds parameters by their names.
+/// it hands out the records' octets, finds parameters by their names, and tells titles.
 pub fn compare(tables: &Tables, meanings: Option<&[LinkMeaning]>) -> Compared<()> {
     let counts = Counts {
         links: tables.link_count,
@@ -36,7 +37,10 @@ pub fn compare(tables: &Tables, meanings: Option<&[LinkMeaning]>) -> Compared<()
         return Ok(());
     };
     let mut links = table.links().zip(&meanings);
-    let found = links.try_for_each(|(link, meaning)| lookups::compare(link, meaning));
+    let found = links.try_for_each(|(link, meaning)| {
+        lookups::compare(link, meaning)?;
+        titles::compare(link, meaning)
+    });
     found.map_err(|difference| Difference {
         asked: format!("{} in the {}", difference.asked, view()),
         ..difference

@@ -6,8 +6,10 @@
 //! completed (`prefix`), and the records come from a derivation found so
 //! (`derivation`, `reading`). Targets are judged in the same way, by RFC 3986's
 //! own rules (`references`, `targets`). A header in parts is judged as the
-//! octets that came so far (`feeding`). All else follows the rules' definitions
-//! word by word. Clarity comes before speed.
+//! octets that came so far (`feeding`). Extended values are taken apart at their
+//! marks (`extended`), and their octets compared with what the numbers in them
+//! are written as (`utf8`). All else follows the rules' definitions word by
+//! word. Clarity comes before speed.
 //!
 //! What is asked of headers and tables begins with the number of an edition:
 //! 0 is RFC 8288's, 1 RFC 5988's.
@@ -19,8 +21,10 @@
 mod code;
 mod comparison;
 mod context;
+mod decode;
 mod derivation;
 mod edition;
+mod extended;
 mod feeding;
 mod grammar;
 mod kept;
@@ -39,7 +43,9 @@ mod search;
 mod sets;
 mod table;
 mod targets;
+mod title;
 mod tree;
+mod utf8;
 mod value;
 mod vectors;
 mod write;
@@ -47,6 +53,7 @@ mod write;
 pub use code::{name_code, LAST_CODE, LAST_ONCE};
 pub use comparison::{compare, Comparison};
 pub use context::context;
+pub use decode::decode;
 pub use feeding::Feeding;
 pub use listing::listing;
 pub use meaning::{meanings, LinkMeaning, ParamMeaning};
@@ -55,6 +62,7 @@ pub use record::PARAM_SLOTS;
 pub use search::search;
 pub use table::good;
 pub use targets::is_reference;
+pub use title::title;
 pub use tree::Tree;
 pub use value::value;
 pub use vectors::vectors;

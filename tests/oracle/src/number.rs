@@ -2,7 +2,8 @@
 
 /// Done.
 pub const DONE: usize = 0;
-/// Header, all feeds, text or written form over [`LIMIT`] octets.
+/// Header, all feeds, text, written form or extended value over [`LIMIT`]
+/// octets.
 pub const TOO_LONG: usize = 1;
 /// The grammar doesn't derive the header, or none that begins so.
 pub const MALFORMED: usize = 2;
@@ -19,11 +20,13 @@ pub const NO_RELATION: usize = 6;
 pub const NO_OUTPUT_ROOM: usize = 7;
 /// The link number isn't below the count.
 pub const NO_SUCH_LINK: usize = 8;
-/// No such parameter, or no link has the relation.
+/// No such parameter, no link has the relation, or the link has no title.
 pub const NOT_FOUND: usize = 9;
 /// The number of the edition is none of theirs.
 pub const UNKNOWN_EDITION: usize = 10;
+/// The extended value is wrong.
+pub const BAD_EXTENDED: usize = 11;
 
-/// The most octets that a header, a text or a written form may have, and the
-/// least of a buffer that gathers a header.
+/// The most octets that a header, a text, a written form or an extended value
+/// may have, and the least of a buffer that gathers a header.
 pub const LIMIT: usize = 8192;

@@ -35,6 +35,16 @@ pub fn hex(octet: u8) -> bool {
     octet.is_ascii_hexdigit()
 }
 
+/// An octet of the language of an extended value.
+pub fn language(octet: u8) -> bool {
+    octet.is_ascii_alphanumeric() || octet == b'-'
+}
+
+/// An octet that stands for itself in an extended value.
+pub fn attribute(octet: u8) -> bool {
+    octet.is_ascii_alphanumeric() || b"!#$&+-.^_`|~".contains(&octet)
+}
+
 /// An octet that stands for itself everywhere in a reference.
 pub fn unreserved(octet: u8) -> bool {
     octet.is_ascii_alphanumeric() || b"-._~".contains(&octet)

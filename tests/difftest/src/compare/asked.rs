@@ -1,6 +1,7 @@
 //! Questions to a table, and writing it.
 
 use super::equal::{equal, equal_rooms};
+use super::output::equal_output;
 use super::Compared;
 use crate::generate::edition::NEWER;
 use crate::lent::Lent;
@@ -8,7 +9,7 @@ use crate::reached::{Entry, In, FORM_TOO_LONG};
 use crate::run::Run;
 use crate::shown::{self, Difference};
 use crate::tables::{LentTables, Tables};
-use capstanbar::ffi::{self, LengthAnswer};
+use capstanbar::ffi;
 
 /// A table that is asked, in lent memory.
 pub struct Asked<'t> {
@@ -109,7 +110,34 @@ impl<'t> Asked<'t> {
         };
         let expected = reference(t.edition);
         self.count(run, Entry::Value, answer.number, || reference(NEWER).0);
-        output(asked, answer, &out, expected, copy)
+        equal_output(asked, answer, &out, expected, copy)
+    }
+
+    /// The number of copying a link's title into that many octets, and the copy.
+    pub fn title(&self, run: &mut Run, link: usize, room: usize) -> Compared<(usize, Vec<u8>)> {
+        let asked = || {
+            let table = shown::table(self.tables);
+            format!("title of link {link}, into {room} octets, in {table}")
+        };
+        let mut out = Lent::new(room, run.salt());
+        let t = self.tables;
+        let answer = ffi::title(t.edition, self.lent.raw(), link, out.room_mut());
+        let mut copy = vec![0; room];
+        let mut reference = |edition| {
+            oracle::title(
+                edition,
+                &t.text,
+                &t.links,
+                &t.params,
+                t.link_count,
+                t.param_count,
+                link,
+                &mut copy,
+            )
+        };
+        let expected = reference(t.edition);
+        self.count(run, Entry::Title, answer.number, || reference(NEWER).0);
+        equal_output(asked, answer, &out, expected, copy)
     }
 
     /// The number of writing into that many octets, and the form.
@@ -140,7 +168,7 @@ impl<'t> Asked<'t> {
         };
         let else_told = || told(reference(NEWER).0);
         self.count(run, Entry::Write, told(answer.number), else_told);
-        output(asked, answer, &out, expected, form)
+        equal_output(asked, answer, &out, expected, form)
     }
 
     /// Counts the number; of an unknown edition, what RFC 8288's would answer.
@@ -164,18 +192,4 @@ impl<'t> Asked<'t> {
             expected: String::from("the table as it was"),
         })
     }
-}
-
-/// Compares what was put out, and what was left alone.
-fn output(
-    asked: impl Fn() -> String,
-    answer: LengthAnswer,
-    out: &Lent<u8>,
-    expected: (usize, usize),
-    mut octets: Vec<u8>,
-) -> Compared<(usize, Vec<u8>)> {
-    equal(&asked, (answer.number, answer.length), expected)?;
-    octets.truncate(answer.length);
-    equal_rooms(&asked, "output", out, &octets)?;
-    Ok((answer.number, octets))
 }

@@ -4,6 +4,7 @@ mod codes;
 mod comparisons;
 mod components;
 mod editions;
+mod extended;
 mod feeds;
 mod laws;
 mod limits;
@@ -14,6 +15,7 @@ mod rfc8288;
 mod rows;
 mod tables;
 mod targets;
+mod titles;
 mod writing;
 
 use oracle::{ReadAnswer, PARAM_SLOTS};
@@ -114,6 +116,22 @@ impl Tables {
             self.param_count,
             link,
             place,
+            &mut out,
+        );
+        output(answer, out)
+    }
+
+    /// Copies a link's title into that many octets.
+    fn title(&self, link: usize, room: usize) -> Result<Vec<u8>, usize> {
+        let mut out = vec![HELD_OCTET; room];
+        let answer = oracle::title(
+            self.edition,
+            &self.text,
+            &self.link_slots,
+            &self.param_slots,
+            self.link_count,
+            self.param_count,
+            link,
             &mut out,
         );
         output(answer, out)

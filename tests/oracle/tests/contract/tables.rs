@@ -27,6 +27,7 @@ fn assert_bad(change: impl Fn(&mut Tables, usize), numbers: &[usize]) {
         assert_eq!(tables.search("a"), (5, 0));
         assert_eq!(tables.context(b"base", 0), (5, 0, 0, 0));
         assert_eq!(tables.value(0, 0, 100), Err(5));
+        assert_eq!(tables.title(0, 100), Err(5));
         assert_eq!(tables.write(100), Err(5));
     }
 }
@@ -197,6 +198,7 @@ fn a_bad_code_is_bad_for_every_question() {
         assert_eq!(tables.search("b"), (5, 0));
         assert_eq!(tables.context(b"base", 0), (5, 0, 0, 0));
         assert_eq!(tables.value(0, 0, 100), Err(5));
+        assert_eq!(tables.title(0, 100), Err(5));
         assert_eq!(tables.write(100), Err(5));
     }
 }

@@ -54,6 +54,8 @@ struct Answers {
     value: usize,
     place: usize,
     copy: usize,
+    no_title: usize,
+    title: usize,
     write: usize,
 }
 
@@ -63,6 +65,8 @@ const GOOD: Answers = Answers {
     value: 8,
     place: 9,
     copy: 7,
+    no_title: 9,
+    title: 8,
     write: 7,
 };
 
@@ -73,6 +77,8 @@ const fn refused(number: usize) -> Answers {
         value: number,
         place: number,
         copy: number,
+        no_title: number,
+        title: number,
         write: number,
     }
 }
@@ -85,6 +91,8 @@ fn expect(run: &mut Run, tables: &Tables, expected: Answers) -> Compared<()> {
         value: asked.value(run, tables.link_count, 9999, 0)?.0,
         place: asked.value(run, 0, 9999, 0)?.0,
         copy: asked.value(run, 0, 0, 0)?.0,
+        no_title: asked.title(run, 0, 0)?.0,
+        title: asked.title(run, tables.link_count, 0)?.0,
         write: asked.write(run, 0)?.0,
     };
     if answers == expected {

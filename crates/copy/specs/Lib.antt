@@ -1,0 +1,2 @@
+-- What the crate `copy` means by its words.
+pub mod Room

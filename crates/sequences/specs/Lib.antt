@@ -1,0 +1,3 @@
+-- What the crate `sequences` means by its words.
+pub mod Ones
+pub mod Awaited

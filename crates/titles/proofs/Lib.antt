@@ -1,0 +1,4 @@
+-- Laws of titles.
+pub mod PlainTitle
+pub mod TitleOf
+pub mod Decoding

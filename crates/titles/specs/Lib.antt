@@ -1,0 +1,2 @@
+-- What the crate `titles` means by its words.
+pub mod Plain

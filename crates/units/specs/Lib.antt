@@ -1,0 +1,3 @@
+-- What the crate `units` means by its words.
+pub mod Seen
+pub mod Units

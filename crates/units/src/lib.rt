@@ -1,0 +1,132 @@
+// Attribute characters and triples of an extended value, read in place: through the backslashes of a quoted string, or as they stand.
+ghost use mathlib.Core.Path.{_≡_};
+ghost use mathlib.Core.Bool.{true, false};
+ghost use Prim.Native.Nat.{_≤_};
+ghost use lib.ListN.{length};
+ghost use Rattle.octets.specs.Sets.{isHex};
+ghost use Rattle.extended.specs.Value.{isAttribute, hexValue, tripled};
+ghost use Rattle.extended.specs.Decoded.{no-triple, behind-percent, behind-digit};
+ghost use Rattle.units.specs.Seen.{Looked};
+ghost use Rattle.units.specs.Units.{IsUnit};
+use kinds::Place;
+use octets::bits::in_bits;
+use octets::sets::is_hex;
+
+// An octet and the place behind it, or none.
+pub enum Seen {
+    Octet(u8, Place),
+    End,
+}
+
+// An octet given and the place behind what gave it; nothing more; or what gives none.
+pub enum Given {
+    Gives(u8, Place),
+    Done,
+    Wrong,
+}
+
+// The octet behind a backslash, if one is left.
+fn look_behind(s: &[u8], k: Place, e: Place) -> Seen
+    requires { ⌜ e .0 ≤ length (now s) ⌝ }
+    ensures { λ r. ⌜ Looked false (now (s .entry)) (e .0) (k .0) r ⌝ }
+{
+    if k.0 >= e.0 {
+        return Seen::End;
+    }
+    let at = k.0;
+    Seen::Octet(s[at], k.next())
+}
+
+// The octet that is read at place k of a part that ends at e. With `escapes` a backslash stands for the octet behind it.
+pub fn look(s: &[u8], k: Place, e: Place, escapes: bool) -> Seen
+    requires { ⌜ e .0 ≤ length (now s) ⌝ }
+    ensures { λ r. ⌜ Looked escapes (now (s .entry)) (e .0) (k .0) r ⌝ }
+{
+    if k.0 >= e.0 {
+        return Seen::End;
+    }
+    let at = k.0;
+    let c = s[at];
+    if escapes {
+        if c == b'\\' {
+            return look_behind(s, k.next(), e);
+        }
+    }
+    Seen::Octet(c, k.next())
+}
+
+// An attribute character: an octet of a token, but none of `*`, `'` and `%`.
+fn is_attribute(c: u8) -> bool
+    ensures { λ r. ⌜ r ≡ isAttribute c ⌝ }
+{
+    in_bits(0x03ff_685a_0000_0000, 0x57ff_ffff_c7ff_fffe, c)
+}
+
+// The number of a hex digit: a letter's last four bits count from 1, and stand for 10 on.
+fn hex_value(c: u8) -> u8
+    requires { ⌜ isHex c ≡ true ⌝ }
+    ensures { λ r. ⌜ (r ≡ hexValue c) × (r ≤ 15) ⌝ }
+{
+    c % 16 + 9 * (c / 64)
+}
+
+// The octet that a triple with these digits gives.
+fn tripled_octet(a: u8, b: u8) -> u8
+    requires { ⌜ (isHex a ≡ true) × (isHex b ≡ true) ⌝ }
+    ensures { λ r. ⌜ r ≡ tripled a b ⌝ }
+{
+    16 * hex_value(a) + hex_value(b)
+}
+
+// Behind a triple's `%` and its first digit a.
+fn second_digit(s: &[u8], k: Place, e: Place, escapes: bool, a: u8) -> Given
+    requires { ⌜ (e .0 ≤ length (now s)) × (isHex a ≡ true) ⌝ }
+    ensures { λ r. ⌜ IsUnit (behind-digit a) escapes (now (s .entry)) (e .0) (k .0) r ⌝ }
+{
+    match look(s, k, e, escapes) {
+        Seen::End => Given::Wrong,
+        Seen::Octet(b, n) => {
+            if is_hex(b) {
+                Given::Gives(tripled_octet(a, b), n)
+            } else {
+                Given::Wrong
+            }
+        }
+    }
+}
+
+// Behind a triple's `%`.
+fn first_digit(s: &[u8], k: Place, e: Place, escapes: bool) -> Given
+    requires { ⌜ e .0 ≤ length (now s) ⌝ }
+    ensures { λ r. ⌜ IsUnit behind-percent escapes (now (s .entry)) (e .0) (k .0) r ⌝ }
+{
+    match look(s, k, e, escapes) {
+        Seen::End => Given::Wrong,
+        Seen::Octet(a, n) => {
+            if is_hex(a) {
+                second_digit(s, n, e, escapes, a)
+            } else {
+                Given::Wrong
+            }
+        }
+    }
+}
+
+// What stands at place k.
+pub fn unit(s: &[u8], k: Place, e: Place, escapes: bool) -> Given
+    requires { ⌜ e .0 ≤ length (now s) ⌝ }
+    ensures { λ r. ⌜ IsUnit no-triple escapes (now (s .entry)) (e .0) (k .0) r ⌝ }
+{
+    match look(s, k, e, escapes) {
+        Seen::End => Given::Done,
+        Seen::Octet(c, n) => {
+            if c == b'%' {
+                first_digit(s, n, e, escapes)
+            } else if is_attribute(c) {
+                Given::Gives(c, n)
+            } else {
+                Given::Wrong
+            }
+        }
+    }
+}
