@@ -225,9 +225,10 @@ capstan_length_answer capstan_value(size_t edition, const uint8_t *text, size_t 
  * Writes the title of link number `link` to `out`, and answers its length: the octets that its `title*` gives if that is a right
  * extended value (capstan_decode says which are), and else the meaning of its `title`, both with the backslashes of a quoted string
  * taken out first. A `title*` that is wrong counts as none, one without a value too, and nothing of it is copied. One that is right and
- * gives no octets is a title of length 0, and one that finds no room is refused with CAPSTAN_NO_OUTPUT_ROOM: neither leads to `title`.
- * What `title*` gives is UTF-8; the octets of a `title` are not judged, and may be any that stand in a value. Room for the span of the
- * value that is taken is always enough.
+ * gives no octets is a title of length 0, and one that gives more octets than `out_len` is refused with CAPSTAN_NO_OUTPUT_ROOM; `title`
+ * is not taken in either case. What `title*` gives is UTF-8; the octets of a `title` are not judged, and may be any that stand in a
+ * value. A `title*` may give any Unicode text, also control octets (below 32, and 127) such as ESC, LF and NUL, of which a `title` can
+ * hold HTAB alone. Room for the span of the value that is taken is always enough.
  * Numbers, in order: CAPSTAN_UNKNOWN_EDITION, CAPSTAN_TOO_LONG, CAPSTAN_BAD_TABLE, CAPSTAN_NO_SUCH_LINK, CAPSTAN_NOT_FOUND (neither a
  * right `title*` nor a `title`), CAPSTAN_NO_OUTPUT_ROOM.
  */
@@ -241,8 +242,9 @@ capstan_length_answer capstan_title(size_t edition, const uint8_t *text, size_t 
  * but for `*`, `'` and `%`, and triples, a `%` with two hex digits of either case. An attribute character gives itself, a triple the
  * octet of its digits; what they give together must be well formed UTF-8 by RFC 3629, without overlong forms, surrogates and numbers
  * over 10FFFF hex, or the value is wrong. Any other octet is wrong, a backslash too: capstan_value takes those of a quoted string out.
- * `UTF-8''` gives no octets, and `UTF-8''%00` one. The editions don't differ in it, so it takes none. A refusal leaves `out` as it was,
- * also where the value is wrong only at its end. Room for the value itself is always enough.
+ * `UTF-8''` gives no octets, and `UTF-8''%00` one. A right value may give any Unicode text, also control octets (below 32, and 127) such
+ * as ESC, LF and NUL, of which a header as written can hold HTAB alone. The editions don't differ in it, so it takes none. A refusal
+ * leaves `out` as it was, also where the value is wrong only at its end. Room for the value itself is always enough.
  * Numbers, in order: CAPSTAN_TOO_LONG, CAPSTAN_BAD_EXTENDED, CAPSTAN_NO_OUTPUT_ROOM.
  */
 capstan_length_answer capstan_decode(const uint8_t *value, size_t value_len, uint8_t *out, size_t out_len);

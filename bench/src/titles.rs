@@ -14,6 +14,7 @@ pub fn print() {
     println!("Extended values decoded, with {OCTETS} octets behind their quotes, and titles; the table loop goes over the value or the header:\n");
     println!("| Entry | Value | Octets | Octets given | ns | Octets per ns | Times the table loop | Independent reader, times this |");
     println!("|---|---|---:|---:|---:|---:|---:|---:|");
+    // Half is 96 of the 200 octets behind the quotes: 16 characters of two triples, the most that aren't over half.
     let [plain, half, triples] = [0, 16, 33].map(value);
     decode("plain", &plain);
     decode("half in triples", &half);

@@ -7,7 +7,8 @@
 /* Room for 32 links and 128 parameters. */
 enum { LINK_SLOTS = 32 * CAPSTAN_LINK_SLOTS, PARAM_SLOTS = 128 * CAPSTAN_PARAM_SLOTS };
 
-static const char sample[] = "</packs/6>; rel=prev, </packs/8>; rel=\"next last\"; title=\"Harbour, part 3\"";
+static const char sample[] = "</packs/6>; rel=prev; title=\"Harbour, part 1\", "
+                             "</packs/8>; rel=\"next last\"; title=\"Harbour, part 3\"; title*=UTF-8'de'H%C3%A4fen%2C%20Teil%203";
 
 static const uint8_t *text;
 static size_t text_len;
@@ -37,6 +38,13 @@ static void print_languages(size_t number)
     }
 }
 
+/* Prints `?` for control octets: a `title*` may give any of them, and with an end of line a header could forge lines of the output. */
+static void print_visibly(const uint8_t *octets, size_t count)
+{
+    for (size_t i = 0; i < count; i++)
+        putchar(octets[i] < 32 || octets[i] == 127 ? '?' : octets[i]);
+}
+
 /* Prints a line with the link's title, if it has one: a title in the player's language if the header has it, else the plain one. */
 static void print_title(size_t number)
 {
@@ -46,7 +54,7 @@ static void print_title(size_t number)
     if (told.number != CAPSTAN_DONE)
         return;
     printf("  title: ");
-    fwrite(title, 1, told.length, stdout);
+    print_visibly(title, told.length);
     putchar('\n');
 }
 

@@ -6,8 +6,9 @@ use crate::{ffi, Refusal};
 /// The value is `UTF-8` in any case, `'`, a language of letters, digits and hyphens, which may be
 /// empty, `'`, and then octets of tokens other than `*`, `'` and `%`, which give themselves, and `%`
 /// with two hex digits each, which give one octet. What all of them give is UTF-8, or the value is
-/// wrong. The backslashes of a quoted string must have been taken out, as
-/// [`Param::value`](crate::Param::value) does.
+/// wrong. The text may hold any characters, also control characters of ASCII such as ESC, LF and NUL,
+/// of which a header as written can hold HTAB alone. The backslashes of a quoted string must have been
+/// taken out, as [`Param::value`](crate::Param::value) does.
 ///
 /// Refused in this order: too long, bad extended value, no output room. Room for the value itself is
 /// always enough.
@@ -36,11 +37,4 @@ pub fn decode<'o>(value: &[u8], out: &'o mut [u8]) -> Result<&'o str, Refusal> {
 pub(crate) fn text(octets: &[u8]) -> &str {
     // The library is proved to give nothing else, so this fails with another library only.
     str::from_utf8(octets).expect("a right extended value gives UTF-8")
-}
-
-/// Whether it is a right extended value; it has at most [`LIMIT`](crate::LIMIT) octets.
-pub(crate) fn is_right(value: &[u8]) -> bool {
-    // In no room at all a right one is decoded to nothing, or finds no room.
-    let answer = ffi::decode(value, &mut []);
-    Refusal::check(answer.number, 0) != Err(Refusal::BadExtended)
 }

@@ -158,6 +158,11 @@ impl<'a> Param<'a> {
     pub fn value<'o>(&self, out: &'o mut [u8]) -> Result<&'o [u8], Refusal> {
         self.table.value(self.link, self.place, out)
     }
+
+    /// Whether its value is right; it is a `title*`.
+    pub(crate) fn is_right_title_star(&self) -> bool {
+        self.table.is_right_title_star(self.number)
+    }
 }
 
 /// The parameters of a link in order.

@@ -320,8 +320,9 @@ impl<'a> Table<'a> {
     /// text that its `title*` gives, if that is a right extended value as [`decode`](crate::decode)
     /// says, and else the meaning of its `title`.
     ///
-    /// Refused in this order: no such link, not found, no output room. A `title*` that is right but
-    /// finds no room is refused so, too. Room for the value taken, as written, is always enough.
+    /// Refused in this order: no such link, not found, no output room. A right `title*` that gives
+    /// more octets than the output has is refused so, too, and `title` isn't taken instead. Room for
+    /// the value taken, as written, is always enough.
     ///
     /// ```
     /// use capstanbar::{Refusal, Table, Title};
@@ -364,6 +365,27 @@ impl<'a> Table<'a> {
         let answer = ffi::write(self.edition.number(), self.raw, out);
         Refusal::check(answer.number, 0)?;
         Ok(&out[..answer.length])
+    }
+
+    /// Whether the value of a `title*` is right. The number is that of the parameter, below the count.
+    ///
+    /// The record is lent as the only one of a link with an empty target: so the library takes the
+    /// backslashes out, and no value has to be copied.
+    pub(crate) fn is_right_title_star(&self, number: usize) -> bool {
+        let alone = RawTable {
+            text: self.raw.text,
+            links: &[0, 0, 0, 1],
+            params: &self.param_record(number),
+            link_count: 1,
+            param_count: 1,
+        };
+        let answer = ffi::title(self.edition.number(), alone, 0, &mut []);
+        // With an empty output a right value is done if it gives nothing, and else has no room; a wrong
+        // one is no title, so none is found.
+        matches!(
+            Refusal::check(answer.number, 0),
+            Ok(()) | Err(Refusal::NoOutputRoom)
+        )
     }
 
     /// The record of a link below the count.

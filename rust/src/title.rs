@@ -1,5 +1,5 @@
-use crate::decode::{is_right, text};
-use crate::{Link, Name, Param, LIMIT};
+use crate::decode::text;
+use crate::{Link, Name};
 
 /// A link's title, and by that where it comes from.
 ///
@@ -16,7 +16,8 @@ use crate::{Link, Name, Param, LIMIT};
 /// ```
 #[derive(Clone, Copy, Debug, PartialEq, Eq, Hash)]
 pub enum Title<'o> {
-    /// What a right `title*` gives, which is text.
+    /// What a right `title*` gives, which is text. It may hold any characters, also control
+    /// characters of ASCII such as ESC, LF and NUL, of which a `title` can hold HTAB alone.
     Text(&'o str),
     /// What `title` means, where there is no right `title*`. Nobody judged its octets: they may be
     /// UTF-8, or of any other charset.
@@ -28,7 +29,7 @@ impl<'o> Title<'o> {
     pub(crate) fn of(link: Link, octets: &'o [u8]) -> Title<'o> {
         match link.find(Name::TitleStar) {
             // With no `title` beside it, it was the `title*`.
-            Some(star) if link.find(Name::Title).is_none() || gives_text(&star) => {
+            Some(star) if link.find(Name::Title).is_none() || star.is_right_title_star() => {
                 Title::Text(text(octets))
             }
             _ => Title::Octets(octets),
@@ -49,15 +50,4 @@ impl<'o> Title<'o> {
             Title::Octets(octets) => octets,
         }
     }
-}
-
-/// Whether what the parameter means is a right extended value.
-fn gives_text(param: &Param) -> bool {
-    let written = param.raw_value();
-    if !written.contains(&b'\\') {
-        return is_right(written);
-    }
-    let mut room = [0; LIMIT];
-    // A good table's text is within the limit, and a value is no longer than that.
-    param.value(&mut room).is_ok_and(is_right)
 }

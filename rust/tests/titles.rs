@@ -14,7 +14,7 @@ const VALUES: &[(&str, Option<&str>)] = &[
     ),
     ("utf-8''", Some("")),
     ("uTf-8'x-1'!#$&+-.^_`|~", Some("!#$&+-.^_`|~")),
-    ("UTF-8''%00%7f", Some("\0\u{7f}")),
+    ("UTF-8''%00%0A%1b%7f", Some("\0\n\u{1b}\u{7f}")),
     ("UTF-8''%C2%80%df%bF", Some("\u{80}\u{7ff}")),
     ("UTF-8''%e0%a0%80%ED%9F%BF", Some("\u{800}\u{d7ff}")),
     ("UTF-8''%ee%80%80%EF%BF%BF", Some("\u{e000}\u{ffff}")),
@@ -137,6 +137,19 @@ fn a_title_is_octets() {
         Ok(Title::Octets(b"\xc3\xa4")),
     );
     assert_title(b";title*;title*=UTF-8''a", Err(Refusal::NotFound));
+}
+
+/// Beside a `title`, a link's own `title*` decides; a bare value that is no token can't be right.
+#[test]
+fn each_link_has_its_own() {
+    let header = b"<a>;title=b;title*=UTF-8''c, <d>;title*=UTF-8''e/f;title=g/h, <i>;title=j";
+    let (mut links, mut params) = ([0; 3 * LINK_SLOTS], [0; 5 * PARAM_SLOTS]);
+    let table = Table::read_in(Edition::Rfc5988, header, &mut links, &mut params).unwrap();
+    let mut rooms = [[0; 8]; 3];
+    let [a, d, i] = &mut rooms;
+    assert_eq!(table.title(0, a), Ok(Title::Text("c")));
+    assert_eq!(table.title(1, d), Ok(Title::Octets(b"g/h")));
+    assert_eq!(table.title(2, i), Ok(Title::Octets(b"j")));
 }
 
 /// As long as a value may be, in quotes and with backslashes before nearly every octet.

@@ -37,6 +37,7 @@ static const struct { const char *params, *title; } rows[] = {
     { ";title=UTF-8''%41", "UTF-8''%41" }, { ";title=\"\377\\\303\"", "\377\303" },
     { ";title*=UTF-8''%41", "A" }, { ";Title*=\"UTF-8''%41\"", "A" }, { ";title*=\"\\U\\T\\F-8\\'\\'%\\4\\1\"", "A" },
     { ";title*=UTF-8''%41;title=b", "A" }, { ";title=b;title*=UTF-8''%41", "A" }, { ";title=b;title*=UTF-8''", "" },
+    { ";title*=UTF-8''%0A%1b%7F;title=b", "\n\033\177" },
     { ";title*=UTF-8''%41;title*=UTF-8''%42", "A" }, { ";title*=%;title*=UTF-8''%42", NULL },
     { ";title*", NULL }, { ";title*;title=b", "b" }, { ";title*=\"\";title=b", "b" }, { ";title*=a;title=b", "b" },
     { ";title*=\"UTF-8''a b\";title=b", "b" }, { ";title*=\"UTF-8''\\\\\";title=\"\"", "" }, { ";title*=UTF-8''%ff;title=\"\\b\"", "b" },

@@ -11,10 +11,10 @@ use Rattle.extended.specs.Value as value
 use Rattle.extended.specs.Decoded.{valueChars, given}
 use Rattle.extended.proofs.Given.{none-some}
 use Rattle.extended.proofs.Exact.{extended-of, extended-chars}
-use Rattle.sequences.specs.Awaited.{nothing, complete, AwaitedExact}
+use Rattle.sequences.specs.Awaited.{nothing, complete}
 use Rattle.sequences.proofs.Exact.{awaited-exact}
 use Rattle.units.specs.Seen.{seen}
-use Rattle.decoding.specs.Measured.{measured, octetsOf}
+use Rattle.decoding.specs.Measured.{measured, octetsGiven, IsGiven}
 use Rattle.decoding.specs.Judged.{IsRight, IsWrong}
 
 -- octets that are counted are given, and well formed
@@ -53,11 +53,11 @@ module _ {b : Bool} {s : List ℕ} {e k : ℕ} where
 
 -- the octets of a right value are given by its characters, and counted
 module _ {b : Bool} {s : List ℕ} {e k p n : ℕ} (r : IsRight b s e k p n) where
-  pub right-octets : octetsOf (given (seen b s e p)) ≡ r .octets
-  right-octets = ap octetsOf (r .chars)
+  pub right-octets : octetsGiven (given (seen b s e p)) ≡ r .octets
+  right-octets = ap octetsGiven (r .chars)
 
-  pub right-given : given (seen b s e p) ≡ some (octetsOf (given (seen b s e p)))
+  pub right-given : IsGiven (given (seen b s e p))
   right-given = r .chars ∙ ap {B = Option (List ℕ)} some (sym right-octets)
 
-  pub right-counted : n ≡ length (octetsOf (given (seen b s e p)))
+  pub right-counted : n ≡ length (octetsGiven (given (seen b s e p)))
   right-counted = sym (r .count) ∙ ap length (sym right-octets)

@@ -14,7 +14,7 @@ use Rattle.sequences.specs.declared.Awaited.{Awaited}
 use Rattle.units.specs.Seen.{seen}
 use Rattle.units.specs.Units.{GivesOctet, GivesNone, GivesWrong}
 use Rattle.units.proofs.Looking.{nothing-left}
-use Rattle.decoding.specs.Measured.{measured, octetsOf}
+use Rattle.decoding.specs.Measured.{measured, octetsGiven, IsGiven}
 
 -- one octet more is counted, and judged
 measured-more : (n : ℕ) (t : Awaited) (c : ℕ) (o : Option (List ℕ)) → measured n t (add c o) ≡ measured (n + 1) (behind t c) o
@@ -33,17 +33,17 @@ module _ {b : Bool} {s : List ℕ} {e k c m : ℕ} (w : GivesOctet no-triple b s
 
   -- ---- octets that are known to be given
 
-  module _ (h : given (seen b s e k) ≡ some (octetsOf (given (seen b s e k)))) where
-    rest : (o : Option (List ℕ)) {u : List ℕ} → add c o ≡ some u → (o ≡ some (octetsOf o)) × (octetsOf (add c o) ≡ c ∷ octetsOf o)
+  module _ (h : IsGiven (given (seen b s e k))) where
+    rest : (o : Option (List ℕ)) {u : List ℕ} → add c o ≡ some u → IsGiven o × (octetsGiven (add c o) ≡ c ∷ octetsGiven o)
     rest none e = absurd (none-some e)
     rest (some v) e = (refl, refl)
 
-    both : (given (seen b s e m) ≡ some (octetsOf (given (seen b s e m))))
-        × (octetsOf (add c (given (seen b s e m))) ≡ c ∷ octetsOf (given (seen b s e m)))
+    both : IsGiven (given (seen b s e m))
+        × (octetsGiven (add c (given (seen b s e m))) ≡ c ∷ octetsGiven (given (seen b s e m)))
     both = rest (given (seen b s e m)) (sym (w .octet) ∙ h)
 
-    pub still-given : given (seen b s e m) ≡ some (octetsOf (given (seen b s e m)))
+    pub still-given : IsGiven (given (seen b s e m))
     still-given = both .0
 
-    pub octet-first : octetsOf (given (seen b s e k)) ≡ c ∷ octetsOf (given (seen b s e m))
-    octet-first = ap octetsOf (w .octet) ∙ both .1
+    pub octet-first : octetsGiven (given (seen b s e k)) ≡ c ∷ octetsGiven (given (seen b s e m))
+    octet-first = ap octetsGiven (w .octet) ∙ both .1

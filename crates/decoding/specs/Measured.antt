@@ -1,5 +1,6 @@
 -- How many octets are given, if they are well-formed UTF-8.
 use Prim.Native.Nat.{ℕ, _+_}
+use mathlib.Core.Path.{_≡_}
 use mathlib.Core.Bool.{cond}
 use mathlib.Core.List.{List, []}
 use mathlib.Core.Option.{Option, none, some}
@@ -20,6 +21,10 @@ told (Count n) = some n
 told Unfit = none
 
 -- the octets given, or none
-abbrev pub octetsOf : Option (List ℕ) → List ℕ
-octetsOf none = []
-octetsOf (some v) = v
+abbrev pub octetsGiven : Option (List ℕ) → List ℕ
+octetsGiven none = []
+octetsGiven (some v) = v
+
+-- octets are given
+abbrev pub IsGiven : Option (List ℕ) → Type 0
+IsGiven o = o ≡ some (octetsGiven o)

@@ -92,6 +92,7 @@ fn language_from(s: &[u8], k: Place, e: Place, escapes: bool) -> Behind
     Behind::Nowhere
 }
 
+// The place behind the language that begins where `from` tells, and its quote.
 pub fn past_language(s: &[u8], from: Behind, e: Place, escapes: bool) -> Behind
     requires { ⌜ e .0 ≤ length (now s) ⌝ }
     ensures { λ r. ⌜

@@ -8,14 +8,15 @@ ghost use Rattle.kinds.specs.Put.{Put};
 ghost use Rattle.extended.specs.Decoded.{given};
 ghost use Rattle.sequences.specs.Awaited.{nothing};
 ghost use Rattle.units.specs.Seen.{seen};
-ghost use Rattle.decoding.specs.Measured.{measured, told, octetsOf};
+ghost use Rattle.decoding.specs.Measured.{measured, told, octetsGiven, IsGiven};
 use kinds::OutPlace;
 use kinds::Place;
 use sequences::Awaited;
 use units::Given;
+use units::is_attribute;
 use units::unit;
 
-// How many octets are given, or that they are no UTF-8, or none are given.
+// How many octets are given; or that they are no UTF-8, or that something gives none.
 pub enum Measured {
     Count(usize),
     Unfit,
@@ -32,7 +33,7 @@ fn finished(awaited: Awaited, n: usize) -> Measured
     }
 }
 
-// Counts the octets given from `from` on, and judges them.
+// Counts the octets given from `from` on, and judges them. Most are attribute characters, which need no look through backslashes.
 pub fn measure(s: &[u8], from: Place, e: Place, escapes: bool) -> Measured
     requires { ⌜ e .0 ≤ length (now s) ⌝ }
     ensures { λ r. ⌜ told r ≡ measured 0 nothing (given (seen escapes (now (s .entry)) (e .0) (from .0))) ⌝ }
@@ -41,12 +42,20 @@ pub fn measure(s: &[u8], from: Place, e: Place, escapes: bool) -> Measured
     let mut n = 0;
     let mut k = from;
     while k.0 < e.0 {
+        let at = k.0;
+        let c = s[at];
+        if is_attribute(c) {
+            awaited = awaited.behind(c);
+            n += 1;
+            k = k.next();
+            continue;
+        }
         let given = unit(s, k, e, escapes);
         match given {
             Given::Done => return finished(awaited, n),
             Given::Wrong => return Measured::Unfit,
-            Given::Gives(c, m) => {
-                awaited = awaited.behind(c);
+            Given::Gives(x, m) => {
+                awaited = awaited.behind(x);
                 n += 1;
                 k = m;
             }
@@ -66,22 +75,30 @@ pub fn put_given(
 ) -> OutPlace
     requires { ⌜
         (e .0 ≤ length (now s))
-        × (given (seen escapes (now s) (e .0) (from .0)) ≡ some (octetsOf (given (seen escapes (now s) (e .0) (from .0)))))
-        × (at .0 + length (octetsOf (given (seen escapes (now s) (e .0) (from .0)))) ≤ length (now out)) ⌝ }
+        × IsGiven (given (seen escapes (now s) (e .0) (from .0)))
+        × (at .0 + length (octetsGiven (given (seen escapes (now s) (e .0) (from .0)))) ≤ length (now out)) ⌝ }
     ensures { λ r. ⌜
         Put (now (out .entry)) (now (out .exit)) (at .0) (r .0)
-        (octetsOf (given (seen escapes (now (s .entry)) (e .0) (from .0)))) ⌝ }
+        (octetsGiven (given (seen escapes (now (s .entry)) (e .0) (from .0)))) ⌝ }
 {
     let mut to = at;
     let mut k = from;
     while k.0 < e.0 {
+        let j = k.0;
+        let c = s[j];
+        let i = to.0;
+        if is_attribute(c) {
+            out[i] = c;
+            to = to.next();
+            k = k.next();
+            continue;
+        }
         let given = unit(s, k, e, escapes);
         match given {
             Given::Done => return to,
             Given::Wrong => return to,
-            Given::Gives(c, m) => {
-                let i = to.0;
-                out[i] = c;
+            Given::Gives(x, m) => {
+                out[i] = x;
                 to = to.next();
                 k = m;
             }

@@ -64,7 +64,7 @@ titles =
       params = 4 ∷ 10 ∷ 10 ∷ 10 ∷ 0 ∷ 5 ∷ 11 ∷ 16 ∷ 17 ∷ 18 ∷ 1 ∷ 4 ∷ [];
       asked = gives 0 (octets "c") ∷ [];
     }
-    -- no octets are a title
+    -- a title of no octets is one too
     ∷ record {
       header = octets "<a>;title*=UTF-8'';title=d";
       links = 1 ∷ 2 ∷ 0 ∷ 2 ∷ [];

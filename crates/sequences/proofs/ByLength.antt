@@ -17,7 +17,7 @@ complement-zeros c h =
     eqb-true (leadingZeros 8 (255 - c)) (leadingOnes c)
     (every-at (λ k. eqb (leadingZeros 8 (255 - k)) (leadingOnes k)) 256 refl c h)
 
--- behind a first octet c of a sequence of n octets
+-- behind a first octet c that begins with n ones
 abbrev pub behindLength : ℕ → ℕ → Awaited
 behindLength n c =
     cond (eqb n 0) nothing

@@ -4,7 +4,8 @@ use mathlib.Core.Path.{_≡_}
 use mathlib.Core.Bool.{true}
 use mathlib.Core.List.{List}
 use Rattle.utf8.specs.Sequences.{WellFormed}
-use Rattle.sequences.specs.Awaited.{nothing, complete, AwaitedExact}
+use Rattle.sequences.specs.Awaited.{nothing, complete}
+use Rattle.sequences.specs.Laws.{AwaitedExact}
 use Rattle.sequences.proofs.Passed.{well-formed-complete}
 use Rattle.sequences.proofs.Formed.{complete-well-formed}
 

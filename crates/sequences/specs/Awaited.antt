@@ -1,12 +1,10 @@
 -- Judging UTF-8 one octet at a time: how many octets of a sequence are still awaited, and from where to where the next may lie. A text
 -- is well formed just if nothing is awaited behind it (law `AwaitedExact`).
 use Prim.Native.Nat.{ℕ, zero, suc}
-use mathlib.Core.Path.{_≡_}
-use mathlib.Core.Bool.{Bool, true, cond}
+use mathlib.Core.Bool.{Bool, cond}
 use mathlib.Core.List.{List, [], _∷_}
 use lib.Dec.{eqb}
 use Rattle.octets.specs.Sets.{between}
-use Rattle.utf8.specs.Sequences.{WellFormed}
 use Rattle.sequences.specs.declared.Awaited.{Awaited}
 
 -- n octets more, the next from a to b
@@ -49,8 +47,3 @@ behind t c = behindFrom (t .count) (t .low) (t .high) c
 abbrev pub complete : Awaited → List ℕ → Bool
 complete t [] = eqb (t .count) 0
 complete t (c ∷ w) = complete (behind t c) w
-
--- a text is well formed just if nothing is awaited behind it
-pub record AwaitedExact : Type 0 where
-  pub sound : (w : List ℕ) → complete nothing w ≡ true → WellFormed w
-  pub all : (w : List ℕ) → WellFormed w → complete nothing w ≡ true

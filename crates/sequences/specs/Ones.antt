@@ -1,4 +1,4 @@
--- The ones that an octet begins with: in a sequence's first octet they say how many octets it has (RFC 3629 section 3).
+-- The ones that an octet begins with: in a sequence's first octet they tell how many octets it has (RFC 3629 section 3, law `OnesTell`).
 use Prim.Native.Nat.{ℕ, zero, suc, _/_, _%_, _^_}
 use mathlib.Core.Bool.{cond}
 use lib.Dec.{eqb}
@@ -10,3 +10,8 @@ onesOf (suc k) c = cond (eqb (c / 2 ^ k % 2) 1) (suc (onesOf k c)) 0
 
 unfoldable pub leadingOnes : ℕ → ℕ
 leadingOnes c = onesOf 8 c
+
+-- how many octets a sequence has whose first octet begins with n ones
+abbrev pub lengthBy : ℕ → ℕ
+lengthBy zero = 1
+lengthBy (suc n) = suc n

@@ -2,7 +2,8 @@
 ghost use mathlib.Core.Path.{_≡_};
 ghost use mathlib.Core.Bool.{cond};
 ghost use Rattle.sequences.specs.Ones.{leadingOnes};
-ghost use Rattle.sequences.specs.Awaited.{tails, nothing, impossible, behindFirst, behind, AwaitedExact};
+ghost use Rattle.sequences.specs.Awaited.{tails, nothing, impossible, behindFirst, behind};
+ghost use Rattle.sequences.specs.Laws.{AwaitedExact, OnesTell};
 
 // How many octets of a sequence are still awaited, and from where to where the next may lie.
 pub struct Awaited {
@@ -11,9 +12,9 @@ pub struct Awaited {
     pub high: u8,
 }
 
-// The ones that a sequence's first octet begins with: so many octets it has, and none says that the octet stands alone. They are the zeros
-// that the complement begins with.
-pub fn sequence_len(first: u8) -> u32
+// The ones that an octet begins with, which are the zeros that its complement begins with. In a sequence's first octet their count tells
+// the sequence's length (law `OnesTell`).
+pub fn leading_ones(first: u8) -> u32
     ensures { λ r. ⌜ r ≡ leadingOnes first ⌝ }
 {
     u8::leading_zeros(!first)
@@ -32,7 +33,7 @@ fn pick(test: bool, yes: u8, no: u8) -> u8
 fn behind_first(c: u8) -> Awaited
     ensures { λ r. ⌜ r ≡ behindFirst c ⌝ }
 {
-    let n = sequence_len(c);
+    let n = leading_ones(c);
     if n == 0 {
         return Awaited::nothing();
     }
@@ -107,4 +108,9 @@ impl Awaited {
 // A text is well formed just if nothing is awaited behind it.
 pub fn awaited_exact()
     ensures { λ _. ⌜ AwaitedExact ⌝ }
+{}
+
+// The ones that a sequence's first octet begins with tell how many octets it has: as many, and one where there are none.
+pub fn ones_tell()
+    ensures { λ _. ⌜ OnesTell ⌝ }
 {}

@@ -12,7 +12,7 @@ use Rattle.outcomes.specs.Number.{limit, badExtended}
 use Rattle.outcomes.specs.Copy.{CopyOut, untouched}
 use Rattle.outcomes.specs.Decode.{Decode, wrong, no-room, gives}
 use Rattle.units.specs.Seen.{seen}
-use Rattle.decoding.specs.Measured.{octetsOf}
+use Rattle.decoding.specs.Measured.{octetsGiven}
 use Rattle.decoding.specs.Judged.{IsRight, IsWrong}
 use Rattle.decoding.proofs.Judging.{right-octets}
 use Rattle.copy.specs.Room.{InRoom, short, enough}
@@ -26,7 +26,7 @@ module _ (w : List ℕ) (h : length w ≤ limit) where
   is-wrong out b = wrong h (subst Wrong whole (b .wrong))
 
   pub is-given : {k n : ℕ} → IsRight false w (length w) 0 k n → {out : List ℕ} {o : CopyOut}
-      → InRoom out (octetsOf (given (seen false w (length w) k))) o → Decode w out o
+      → InRoom out (octetsGiven (given (seen false w (length w) k))) o → Decode w out o
   is-given {k} r {out} {o} room = go (subst (λ (v : List ℕ). InRoom out v o) (right-octets r) room)
     where
       right : Extended w (r .octets)

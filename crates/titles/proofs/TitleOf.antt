@@ -32,7 +32,7 @@ use Rattle.named.proofs.Looking.{listed, own-params}
 use Rattle.values.specs.Rest.{rest}
 use Rattle.values.proofs.Values.{value-meant}
 use Rattle.units.specs.Seen.{seen}
-use Rattle.decoding.specs.Measured.{octetsOf}
+use Rattle.decoding.specs.Measured.{octetsGiven}
 use Rattle.decoding.specs.Judged.{IsRight, IsWrong}
 use Rattle.decoding.proofs.Judging.{right-octets}
 use Rattle.copy.specs.Room.{InRoom, short, enough}
@@ -89,7 +89,7 @@ module _ {t : Table} {i : ℕ} (u : Usable Rfc5988 t) (l : i < t .linkCount) {r 
           w .wrong v (subst (λ (x : List ℕ). Extended x v) value (d .right))
 
       pub right-titled : {k n : ℕ} → IsRight true (t .text) (p .value .to .0) (p .value .from .0) k n → {out : List ℕ} {o : CopyOut}
-          → InRoom out (octetsOf (given (seen true (t .text) (p .value .to .0) k))) o → Titled t i out o
+          → InRoom out (octetsGiven (given (seen true (t .text) (p .value .to .0) k))) o → Titled t i out o
       right-titled {k} {n} w {out} {o} room =
           titled-in-room
           (decoded

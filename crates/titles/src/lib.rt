@@ -1,7 +1,6 @@
-// Titles: that of a link, which its `title*` gives or its `title` means, and what one extended value gives. Both are judged and measured
-// before anything is written.
+// Titles: that of a link, which its `title*` gives or its `title` means, and what one extended value gives. An extended value is judged
+// and measured, and a `title` measured, before anything is written.
 ghost use mathlib.Core.Path.{_≡_};
-ghost use mathlib.Core.Option.{some};
 ghost use Prim.Native.Nat.{_≤_};
 ghost use lib.ListN.{length};
 ghost use Rattle.octets.specs.declared.editions.Edition.the-variants.{Rfc5988};
@@ -13,7 +12,7 @@ ghost use Rattle.outcomes.specs.Decode.{Decode};
 ghost use Rattle.answers.specs.Length.{lengthNumbers, lengthOut};
 ghost use Rattle.named.specs.First.{Listed};
 ghost use Rattle.units.specs.Seen.{seen};
-ghost use Rattle.decoding.specs.Measured.{octetsOf};
+ghost use Rattle.decoding.specs.Measured.{octetsGiven, IsGiven};
 ghost use Rattle.copy.specs.Room.{InRoom};
 ghost use Rattle.titles.specs.Plain.{Plain};
 use answers::LIMIT;
@@ -44,10 +43,10 @@ fn write_given(
 ) -> LengthAnswer
     requires { ⌜
         (e .0 ≤ length (now s))
-        × (given (seen escapes (now s) (e .0) (from .0)) ≡ some (octetsOf (given (seen escapes (now s) (e .0) (from .0)))))
-        × (n ≡ length (octetsOf (given (seen escapes (now s) (e .0) (from .0))))) ⌝ }
+        × IsGiven (given (seen escapes (now s) (e .0) (from .0)))
+        × (n ≡ length (octetsGiven (given (seen escapes (now s) (e .0) (from .0))))) ⌝ }
     ensures { λ r. ⌜
-        InRoom (now (out .entry)) (octetsOf (given (seen escapes (now (s .entry)) (e .0) (from .0))))
+        InRoom (now (out .entry)) (octetsGiven (given (seen escapes (now (s .entry)) (e .0) (from .0))))
         (lengthOut (lengthNumbers r) (now (out .exit))) ⌝ }
 {
     if n > out.len() {

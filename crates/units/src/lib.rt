@@ -1,16 +1,17 @@
 // Attribute characters and triples of an extended value, read in place: through the backslashes of a quoted string, or as they stand.
 ghost use mathlib.Core.Path.{_≡_};
-ghost use mathlib.Core.Bool.{true, false};
-ghost use Prim.Native.Nat.{_≤_};
+ghost use mathlib.Core.Bool.{true};
+ghost use Prim.Native.Nat.{_≤_, _<_};
 ghost use lib.ListN.{length};
 ghost use Rattle.octets.specs.Sets.{isHex};
 ghost use Rattle.extended.specs.Value.{isAttribute, hexValue, tripled};
 ghost use Rattle.extended.specs.Decoded.{no-triple, behind-percent, behind-digit};
-ghost use Rattle.units.specs.Seen.{Looked};
+ghost use Rattle.units.specs.Seen.{ReadAt, Looked};
 ghost use Rattle.units.specs.Units.{IsUnit};
 use kinds::Place;
 use octets::bits::in_bits;
 use octets::sets::is_hex;
+use values::meant_at;
 
 // An octet and the place behind it, or none.
 pub enum Seen {
@@ -18,26 +19,22 @@ pub enum Seen {
     End,
 }
 
-// An octet given and the place behind what gave it; nothing more; or what gives none.
+// An octet given and the place behind what gave it; or that nothing is left; or that something else stands there.
 pub enum Given {
     Gives(u8, Place),
     Done,
     Wrong,
 }
 
-// The octet behind a backslash, if one is left.
-fn look_behind(s: &[u8], k: Place, e: Place) -> Seen
-    requires { ⌜ e .0 ≤ length (now s) ⌝ }
-    ensures { λ r. ⌜ Looked false (now (s .entry)) (e .0) (k .0) r ⌝ }
+// Where the octet stands that is read at place k: with `escapes` behind a backslash.
+fn read_at(s: &[u8], k: Place, e: Place, escapes: bool) -> Place
+    requires { ⌜ (k .0 < e .0) × (e .0 ≤ length (now s)) ⌝ }
+    ensures { λ r. ⌜ ReadAt escapes (now (s .entry)) (e .0) (k .0) (r .0) ⌝ }
 {
-    if k.0 >= e.0 {
-        return Seen::End;
-    }
-    let at = k.0;
-    Seen::Octet(s[at], k.next())
+    if escapes { meant_at(s, k, e) } else { k }
 }
 
-// The octet that is read at place k of a part that ends at e. With `escapes` a backslash stands for the octet behind it.
+// The octet that is read at place k of a part that ends at e.
 pub fn look(s: &[u8], k: Place, e: Place, escapes: bool) -> Seen
     requires { ⌜ e .0 ≤ length (now s) ⌝ }
     ensures { λ r. ⌜ Looked escapes (now (s .entry)) (e .0) (k .0) r ⌝ }
@@ -45,18 +42,16 @@ pub fn look(s: &[u8], k: Place, e: Place, escapes: bool) -> Seen
     if k.0 >= e.0 {
         return Seen::End;
     }
-    let at = k.0;
-    let c = s[at];
-    if escapes {
-        if c == b'\\' {
-            return look_behind(s, k.next(), e);
-        }
+    let p = read_at(s, k, e, escapes);
+    if p.0 >= e.0 {
+        return Seen::End;
     }
-    Seen::Octet(c, k.next())
+    let at = p.0;
+    Seen::Octet(s[at], p.next())
 }
 
 // An attribute character: an octet of a token, but none of `*`, `'` and `%`.
-fn is_attribute(c: u8) -> bool
+pub fn is_attribute(c: u8) -> bool
     ensures { λ r. ⌜ r ≡ isAttribute c ⌝ }
 {
     in_bits(0x03ff_685a_0000_0000, 0x57ff_ffff_c7ff_fffe, c)

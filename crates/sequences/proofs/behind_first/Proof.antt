@@ -1,18 +1,18 @@
--- Each length leads to its own answer.
+-- Each count of ones leads to its own answer.
 use mathlib.Core.Path.{_∙_}
 use borrow.Author.Needs.{needs}
 use Rattle.sequences.proofs.ByLength.{of-none, of-two, of-three, of-four, of-others}
 use Rattle.sequences.proofs.behind_first.Statement.{statement}
 use Rattle.sequences.proofs.behind_first.Tie as tie
 
-sequence-len-requires : tie.Need-sequence-len-requires
-sequence-len-requires c κs = search needs
+leading-ones-requires : tie.Need-leading-ones-requires
+leading-ones-requires c κs = search needs
 
 nothing-requires : tie.Need-nothing-requires
 nothing-requires c κs = search needs
 
 returns : tie.Need-returns
-returns c = c .nothing .ensures ∙ of-none _ _ (c .before .before .sequence-len .ensures) (search needs) (c .before .if1 .taken)
+returns c = c .nothing .ensures ∙ of-none _ _ (c .before .before .leading-ones .ensures) (search needs) (c .before .if1 .taken)
 
 tails-requires : tie.Need-tails-requires
 tails-requires c κs = search needs
@@ -20,7 +20,7 @@ tails-requires c κs = search needs
 returns-2 : tie.Need-returns-2
 returns-2 c =
     c .tails .ensures
-    ∙ of-two _ _ (c .before .before .before .sequence-len .ensures) (search needs) (c .before .before .if1 .left)
+    ∙ of-two _ _ (c .before .before .before .leading-ones .ensures) (search needs) (c .before .before .if1 .left)
     (c .before .if2 .taken)
 
 pick-requires : tie.Need-pick-requires
@@ -32,7 +32,7 @@ pick-requires-2 c κs = search needs
 returns-3 : tie.Need-returns-3
 returns-3 c =
     rw (c .before .pick .ensures, c .pick2 .ensures)
-    (of-three _ _ (c .before .before .before .before .before .sequence-len .ensures) (search needs) (c .before .before .before .before .if1 .left)
+    (of-three _ _ (c .before .before .before .before .before .leading-ones .ensures) (search needs) (c .before .before .before .before .if1 .left)
     (c .before .before .before .if2 .left) (c .before .before .if3 .taken))
 
 pick-requires-3 : tie.Need-pick-requires-3
@@ -44,7 +44,7 @@ pick-requires-4 c κs = search needs
 returns-4 : tie.Need-returns-4
 returns-4 c =
     rw (c .before .pick3 .ensures, c .pick4 .ensures)
-    (of-four _ _ (c .before .before .before .before .before .before .sequence-len .ensures) (search needs)
+    (of-four _ _ (c .before .before .before .before .before .before .leading-ones .ensures) (search needs)
     (c .before .before .before .before .before .if1 .left)
     (c .before .before .before .before .if2 .left) (c .before .before .before .if3 .left) (c .before .before .if4 .taken))
 
@@ -54,7 +54,7 @@ impossible-requires c κs = search needs
 returns-5 : tie.Need-returns-5
 returns-5 c =
     c .impossible .ensures
-    ∙ of-others _ _ (c .before .before .before .before .before .sequence-len .ensures) (search needs)
+    ∙ of-others _ _ (c .before .before .before .before .before .leading-ones .ensures) (search needs)
     (c .before .before .before .before .if1 .left)
     (c .before .before .before .if2 .left) (c .before .before .if3 .left) (c .before .if4 .left)
 
@@ -62,7 +62,7 @@ pub behind-first-spec : {M : Type 1} → statement M
 behind-first-spec =
     tie.close
     (tie.spec
-    sequence-len-requires
+    leading-ones-requires
     nothing-requires
     returns
     tails-requires

@@ -50,35 +50,35 @@ fn read_orders(run: &mut Run) -> Compared<()> {
 #[derive(Clone, Copy, Debug, PartialEq)]
 struct Answers {
     search: usize,
-    context: usize,
-    value: usize,
-    place: usize,
-    copy: usize,
-    no_title: usize,
-    title: usize,
+    context_of_no_link: usize,
+    value_of_no_link: usize,
+    value_at_no_place: usize,
+    value_in_no_room: usize,
+    title_of_untitled_link: usize,
+    title_of_no_link: usize,
     write: usize,
 }
 
 const GOOD: Answers = Answers {
     search: 9,
-    context: 8,
-    value: 8,
-    place: 9,
-    copy: 7,
-    no_title: 9,
-    title: 8,
+    context_of_no_link: 8,
+    value_of_no_link: 8,
+    value_at_no_place: 9,
+    value_in_no_room: 7,
+    title_of_untitled_link: 9,
+    title_of_no_link: 8,
     write: 7,
 };
 
 const fn refused(number: usize) -> Answers {
     Answers {
         search: number,
-        context: number,
-        value: number,
-        place: number,
-        copy: number,
-        no_title: number,
-        title: number,
+        context_of_no_link: number,
+        value_of_no_link: number,
+        value_at_no_place: number,
+        value_in_no_room: number,
+        title_of_untitled_link: number,
+        title_of_no_link: number,
         write: number,
     }
 }
@@ -87,12 +87,12 @@ fn expect(run: &mut Run, tables: &Tables, expected: Answers) -> Compared<()> {
     let asked = Asked::new(run, tables);
     let answers = Answers {
         search: asked.search(run, b"")?,
-        context: asked.context(run, b"", tables.link_count)?,
-        value: asked.value(run, tables.link_count, 9999, 0)?.0,
-        place: asked.value(run, 0, 9999, 0)?.0,
-        copy: asked.value(run, 0, 0, 0)?.0,
-        no_title: asked.title(run, 0, 0)?.0,
-        title: asked.title(run, tables.link_count, 0)?.0,
+        context_of_no_link: asked.context(run, b"", tables.link_count)?,
+        value_of_no_link: asked.value(run, tables.link_count, 9999, 0)?.0,
+        value_at_no_place: asked.value(run, 0, 9999, 0)?.0,
+        value_in_no_room: asked.value(run, 0, 0, 0)?.0,
+        title_of_untitled_link: asked.title(run, 0, 0)?.0,
+        title_of_no_link: asked.title(run, tables.link_count, 0)?.0,
         write: asked.write(run, 0)?.0,
     };
     if answers == expected {
