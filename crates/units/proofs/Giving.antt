@@ -9,12 +9,11 @@ use borrow.Author.Tests.{eq-eqb, ne-eqb}
 use Rattle.octets.specs.Sets.{isHex, isToken, isLetter, isDigit}
 use Rattle.extended.specs.Value.{percent, isAttribute, tripled}
 use Rattle.extended.specs.Decoded.{Open, no-triple, behind-percent, behind-digit, givenFrom}
-use Rattle.units.specs.Seen.{seen, ReadAt, ReadsOctet, ReadsNone}
+use Rattle.units.specs.Seen.{seen, ReadsOctet, ReadsNone}
 use Rattle.units.specs.Units.{GivesOctet, GivesNone, GivesWrong, IsUnit}
 use Rattle.units.specs.declared.Given.{Given}
 use Rattle.units.specs.declared.Given.the-variants.{Gives, Done, Wrong}
-use Rattle.values.proofs.Meant.{at-plain}
-use Rattle.units.proofs.Looking.{meant, stands, reads-octet}
+use Rattle.units.proofs.Looking.{plain, reads-octet}
 
 -- nothing is left
 module _ {b : Bool} {s : List ℕ} {e k : ℕ} (w : ReadsNone b s e k) where
@@ -66,8 +65,5 @@ apart x c n h q = false≢true (sym n ∙ ap isAttribute (sym q) ∙ h)
 pub attribute-here : (b : Bool) (s : List ℕ) {e k : ℕ} → k < e → e ≤ length s → isAttribute (getD s k 0) ≡ true → {n : ℕ} → n ≡ k + 1
     → GivesOctet no-triple b s e k (getD s k 0) n
 unfolding isAttribute isToken isLetter isDigit
-attribute-here b s {e} {k} h l a q = attribute (reads-octet (read b) h q) (apart percent (getD s k 0) refl a) a
-  where
-    read : (b : Bool) → ReadAt b s e k k
-    read true = meant refl (at-plain h l (apart 92 (getD s k 0) refl a))
-    read false = stands s refl h l
+attribute-here b s {e} {k} h l a q =
+    attribute (reads-octet (plain b s (apart 92 (getD s k 0) refl a) h l) h q) (apart percent (getD s k 0) refl a) a

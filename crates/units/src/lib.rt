@@ -34,13 +34,18 @@ fn read_at(s: &[u8], k: Place, e: Place, escapes: bool) -> Place
     if escapes { meant_at(s, k, e) } else { k }
 }
 
-// The octet that is read at place k of a part that ends at e.
+// The octet that is read at place k of a part that ends at e. But for a backslash it is the one there.
 pub fn look(s: &[u8], k: Place, e: Place, escapes: bool) -> Seen
     requires { ⌜ e .0 ≤ length (now s) ⌝ }
     ensures { λ r. ⌜ Looked escapes (now (s .entry)) (e .0) (k .0) r ⌝ }
 {
     if k.0 >= e.0 {
         return Seen::End;
+    }
+    let here = k.0;
+    let c = s[here];
+    if c != b'\\' {
+        return Seen::Octet(c, k.next());
     }
     let p = read_at(s, k, e, escapes);
     if p.0 >= e.0 {
