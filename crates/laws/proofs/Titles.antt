@@ -1,8 +1,8 @@
 -- The rows of titles hold: each test is computed.
 use native.Mathlib.Omega.{arith}
-use Prim.Native.Nat.{ℕ, _≤_}
+use Prim.Native.Nat.{ℕ, _≤_, _<_}
 use mathlib.Core.Path.{_≡_, refl, ap, subst, _∙_}
-use mathlib.Core.Logic.{_⊎_, inl, inr}
+use mathlib.Core.Logic.{_⊎_, inl, inr, ⊎-elim}
 use mathlib.Core.Bool.{Bool, true, false, _&&_, _||_, false≢true}
 use mathlib.Core.List.{List, [], _∷_}
 use mathlib.Core.Option.{Option, none, some}
@@ -34,7 +34,7 @@ use Rattle.outcomes.specs.Title
 use Rattle.outcomes.specs.Title.{Decoded, Undecoded, Title, plain, Untitled, Titles, no-such-link, untitled, no-room, titled}
 use Rattle.outcomes.proofs.Options.{not-none, same-some}
 use Rattle.laws.specs.Row.{recordedTable}
-use Rattle.laws.specs.Titles.{Asked, gives, answers, answersUnder, TitleRow, Answered, TitleRowHolds, titles}
+use Rattle.laws.specs.Titles.{Asked, gives, answers, under, TitleRow, AnsweredIn, Answered, TitleRowHolds, titles}
 use Rattle.laws.specs.Laws.{TitlesHold}
 use Rattle.laws.proofs.Checked.{recorded, recorded-known}
 use Rattle.laws.proofs.Stopped.{read, either}
@@ -104,15 +104,23 @@ abbrev isLong : ℕ → Option (List ℕ) → Bool
 isLong k none = false
 isLong k (some v) = leb k (length v)
 
-abbrev answersTo : Table → Asked → Bool
-answersTo t (gives i v) = ltb i (t .linkCount) && isGiven v (titleOf t i)
-answersTo t (answers i n) =
-    eqb n noSuchLink && leb (t .linkCount) i || eqb n notFound && ltb i (t .linkCount) && isNone (titleOf t i)
-answersTo t (answersUnder i k n) = eqb n noOutputRoom && ltb i (t .linkCount) && isLong k (titleOf t i)
+-- the number of a link that isn't there, or has no title
+abbrev isRefused : Table → ℕ → ℕ → Bool
+isRefused t i n = eqb n noSuchLink && leb (t .linkCount) i || eqb n notFound && ltb i (t .linkCount) && isNone (titleOf t i)
+
+-- that of a title that doesn't fit, where buffers have fewer octets than told
+abbrev isShort : Table → Option ℕ → ℕ → ℕ → Bool
+isShort t none i n = false
+isShort t (some k) i n = eqb n noOutputRoom && ltb i (t .linkCount) && isLong k (titleOf t i)
+
+abbrev answersTo : Table → Option ℕ → Asked → Bool
+answersTo t b (gives i v) = ltb i (t .linkCount) && isGiven v (titleOf t i)
+answersTo t b (answers i n) = isRefused t i n || isShort t b i n
+answersTo t b (under k q) = answersTo t (some k) q
 
 abbrev allAnswer : Table → List Asked → Bool
 allAnswer t [] = true
-allAnswer t (q ∷ qs) = answersTo t q && allAnswer t qs
+allAnswer t (q ∷ qs) = answersTo t none q && allAnswer t qs
 
 abbrev checks : Edition → TitleRow → Bool
 checks e r =
@@ -137,37 +145,49 @@ is-long : (k : ℕ) (o : Option (List ℕ)) → isLong k o ≡ true → (v : Lis
 is-long k none e = absurd (false≢true e)
 is-long k (some v) e = (v, refl, leb-true k (length v) e)
 
+-- the buffer has fewer octets than told
+abbrev Below : Option ℕ → List ℕ → Type 0
+Below none out = Unit {0}
+Below (some k) out = length out < k
+
 module _ (e : Edition) (t : Table) (u : Usable e t) where
-  answered : (q : Asked) → answersTo t q ≡ true → Answered e t q
-  answered (gives i v) x =
-      let (l, g) = both (ltb i (t .linkCount)) (isGiven v (titleOf t i)) x in
-      λ out room.
-      known {e = e} refl (usable u (titled (ltb-true i (t .linkCount) l) (title-is t i v (is-given v (titleOf t i) g)) room))
-  answered (answers i n) x = go (either (eqb n noSuchLink && leb (t .linkCount) i) _ x)
+  refused-so : (i n : ℕ) → isRefused t i n ≡ true → (out : List ℕ) → Titles (numberOf e) t i out (untouched out n)
+  refused-so i n x out = go (either (eqb n noSuchLink && leb (t .linkCount) i) _ x)
     where
       go : ((eqb n noSuchLink && leb (t .linkCount) i) ≡ true) ⊎ ((eqb n notFound && ltb i (t .linkCount) && isNone (titleOf t i)) ≡ true)
-          → (out : List ℕ) → Titles (numberOf e) t i out (untouched out n)
-      go (inl y) out =
+          → Titles (numberOf e) t i out (untouched out n)
+      go (inl y) =
           let (q, l) = both (eqb n noSuchLink) (leb (t .linkCount) i) y in
           rw (eqb-true n noSuchLink q) (known {e = e} refl (usable u (no-such-link (leb-true (t .linkCount) i l))))
-      go (inr y) out =
+      go (inr y) =
           let (ql, z) = both (eqb n notFound && ltb i (t .linkCount)) (isNone (titleOf t i)) y in
           let (q, l) = both (eqb n notFound) (ltb i (t .linkCount)) ql in
           rw (eqb-true n notFound q)
           (known {e = e} refl (usable u (untitled (ltb-true i (t .linkCount) l) (untitled-is t i (is-none (titleOf t i) z)))))
-  answered (answersUnder i k n) x =
+
+  short-so : (b : Option ℕ) (i n : ℕ) → isShort t b i n ≡ true → (out : List ℕ) → Below b out
+      → Titles (numberOf e) t i out (untouched out n)
+  short-so none i n x out below = absurd (false≢true x)
+  short-so (some k) i n x out below =
       let (ql, z) = both (eqb n noOutputRoom && ltb i (t .linkCount)) (isLong k (titleOf t i)) x in
       let (q, l) = both (eqb n noOutputRoom) (ltb i (t .linkCount)) ql in
       let (v, g, m) = is-long k (titleOf t i) z in
-      λ out short.
       rw (eqb-true n noOutputRoom q)
-      (known {e = e} refl (usable u (no-room (ltb-true i (t .linkCount) l) (title-is t i v g) (omega (arith, m, short)))))
+      (known {e = e} refl (usable u (no-room (ltb-true i (t .linkCount) l) (title-is t i v g) (omega (arith, m, below)))))
+
+  answered : (b : Option ℕ) (q : Asked) → answersTo t b q ≡ true → (out : List ℕ) → Below b out → AnsweredIn e t out q
+  answered b (gives i v) x out below =
+      let (l, g) = both (ltb i (t .linkCount)) (isGiven v (titleOf t i)) x in
+      λ room. known {e = e} refl (usable u (titled (ltb-true i (t .linkCount) l) (title-is t i v (is-given v (titleOf t i) g)) room))
+  answered b (answers i n) x out below =
+      ⊎-elim (λ y. refused-so i n y out) (λ y. short-so b i n y out below) (either (isRefused t i n) (isShort t b i n) x)
+  answered b (under k q) x out below = λ short. answered (some k) q x out short
 
   all-answered : (qs : List Asked) → allAnswer t qs ≡ true → Each (Answered e t) qs
   all-answered [] x = each-none
   all-answered (q ∷ qs) x =
-      let (y, z) = both (answersTo t q) (allAnswer t qs) x in
-      each-more (answered q y) (all-answered qs z)
+      let (y, z) = both (answersTo t none q) (allAnswer t qs) x in
+      each-more (λ out. answered none q y out tt) (all-answered qs z)
 
 module _ (e : Edition) where
   row-holds : (r : TitleRow) → checks e r ≡ true → TitleRowHolds e r

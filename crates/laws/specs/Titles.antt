@@ -12,12 +12,12 @@ use Rattle.outcomes.specs.Copy.{untouched, holding}
 use Rattle.outcomes.specs.Title.{Titles}
 use Rattle.laws.specs.Row.{recordedTable, Fills}
 
--- Link number i, asked for its title, gives these octets in any buffer with room for them; or it answers this number, in any buffer,
--- or in any of fewer than k octets.
+-- Link number i, asked for its title, gives these octets, in any buffer with room for them; or it answers this number, in any buffer; or
+-- what is said holds of buffers of fewer than k octets.
 pub data Asked : Type 0 where
   gives : ℕ → List ℕ → Asked
   answers : ℕ → ℕ → Asked
-  answersUnder : ℕ → ℕ → ℕ → Asked
+  under : ℕ → Asked → Asked
 
 -- a header, the link records and the parameter records that it is read to, and what the links answer
 pub record TitleRow : Type 0 where
@@ -27,10 +27,14 @@ pub record TitleRow : Type 0 where
   pub asked : List Asked
 
 module _ (e : Edition) where
+  -- with a buffer that holds `out`
+  abbrev pub AnsweredIn : Table → List ℕ → Asked → Type 0
+  AnsweredIn t out (gives i v) = length v ≤ length out → Titles (numberOf e) t i out (holding out v)
+  AnsweredIn t out (answers i n) = Titles (numberOf e) t i out (untouched out n)
+  AnsweredIn t out (under k q) = length out < k → AnsweredIn t out q
+
   abbrev pub Answered : Table → Asked → Type 0
-  Answered t (gives i v) = (out : List ℕ) → length v ≤ length out → Titles (numberOf e) t i out (holding out v)
-  Answered t (answers i n) = (out : List ℕ) → Titles (numberOf e) t i out (untouched out n)
-  Answered t (answersUnder i k n) = (out : List ℕ) → length out < k → Titles (numberOf e) t i out (untouched out n)
+  Answered t q = (out : List ℕ) → AnsweredIn t out q
 
   pub record TitleRowHolds (r : TitleRow) : Type 0 where
     pub fills : Fills e (r .header) (r .links) (r .params)
@@ -117,6 +121,6 @@ titles =
       header = octets "<a>;title*=UTF-8''jkl;title=m";
       links = 1 ∷ 2 ∷ 0 ∷ 2 ∷ [];
       params = 4 ∷ 10 ∷ 11 ∷ 21 ∷ 1 ∷ 5 ∷ 22 ∷ 27 ∷ 28 ∷ 29 ∷ 1 ∷ 4 ∷ [];
-      asked = gives 0 (octets "jkl") ∷ answersUnder 0 3 noOutputRoom ∷ [];
+      asked = gives 0 (octets "jkl") ∷ under 3 (answers 0 noOutputRoom) ∷ [];
     }
     ∷ []
