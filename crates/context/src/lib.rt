@@ -54,7 +54,8 @@ fn context_of(
         (tableOf (now (text .entry)) (now (links .entry)) (now (params .entry)) (counts .links) (counts .params))
         (link .0) r ⌝ }
 {
-    let state = table_check::state_of(edition, text, links, params, counts);
+    let classes = octet_classes::table();
+    let state = table_check::state_of(&classes, edition, text, links, params, counts);
     match state {
         TableState::Refused(why) => ContextAnswer::Refused(why),
         TableState::Usable => {

@@ -72,7 +72,8 @@ pub fn value(
     ensures { λ r. ⌜ Copy edition (tableOf (now (text .entry)) (now (links .entry)) (now (params .entry)) (counts .links) (counts .params))
         (link .0) index (now (out .entry)) (lengthOut (lengthNumbers r) (now (out .exit))) ⌝ }
 {
-    let state = state_of(edition, text, links, params, counts);
+    let classes = octet_classes::table();
+    let state = state_of(&classes, edition, text, links, params, counts);
     match state {
         TableState::Refused(why) => LengthAnswer::Refused(why),
         TableState::Usable => copy_at(text, links, params, counts, link, index, out),

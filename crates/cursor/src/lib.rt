@@ -4,13 +4,15 @@ ghost use Prim.Native.Nat.{_+_, _≤_, _<_};
 ghost use lib.ListN.{length};
 ghost use Rattle.octets.specs.Sets.{isBlank, isToken, isPlain, isTarget};
 ghost use Rattle.octets.specs.Editions.{further};
-ghost use Rattle.octets.specs.Member.{isIn};
+ghost use Rattle.octet_classes.specs.Sets.{isIn};
 ghost use Rattle.grammar.specs.Grammar.{isBare};
+ghost use Rattle.octet_classes.specs.Classes.{Classes};
 ghost use Rattle.cursor.specs.Passed.{Passed, Ended, Looked, LookedIn};
 use kinds::Place;
 use kinds::Span;
+use octet_classes::Set;
+use octet_classes::is_in;
 use octets::editions::Edition;
-use octets::sets::Set;
 
 pub struct Cursor {
     pub at: Place,
@@ -36,12 +38,13 @@ impl Cursor {
     }
 
     // Whether an octet of the set stands here.
-    pub fn sees_in(self, s: &[u8], set: Set) -> bool
+    pub fn sees_in(self, classes: &[u8; 256], s: &[u8], set: Set) -> bool
+        requires { ⌜ Classes (now classes) ⌝ }
         ensures { λ r. ⌜ LookedIn (isIn set) (now (s .entry)) (self .at .0) r ⌝ }
     {
         let i = self.at.0;
         if i < s.len() {
-            return octets::sets::is_in(set, s[i]);
+            return is_in(classes, set, s[i]);
         }
         false
     }
@@ -67,57 +70,57 @@ impl Cursor {
     }
 
     // Past a run of octets of a set.
-    fn past(self, s: &[u8], set: Set) -> Cursor
-        requires { ⌜ self .at .0 ≤ length (now s) ⌝ }
+    fn past(self, classes: &[u8; 256], s: &[u8], set: Set) -> Cursor
+        requires { ⌜ (self .at .0 ≤ length (now s)) × Classes (now classes) ⌝ }
         ensures { λ r. ⌜ Passed (isIn set) (now (s .entry)) (self .at .0) (r .at .0) ⌝ }
     {
         let mut i = self.at.0;
-        while i < s.len() && octets::sets::is_in(set, s[i]) {
+        while i < s.len() && is_in(classes, set, s[i]) {
             i += 1;
         }
         Cursor { at: Place(i) }
     }
 
     // Past a run of SP and HTAB.
-    pub fn past_blanks(self, s: &[u8]) -> Cursor
-        requires { ⌜ self .at .0 ≤ length (now s) ⌝ }
+    pub fn past_blanks(self, classes: &[u8; 256], s: &[u8]) -> Cursor
+        requires { ⌜ (self .at .0 ≤ length (now s)) × Classes (now classes) ⌝ }
         ensures { λ r. ⌜ Passed isBlank (now (s .entry)) (self .at .0) (r .at .0) ⌝ }
     {
-        self.past(s, Set::Blank)
+        self.past(classes, s, Set::Blank)
     }
 
     // Past a run of token octets.
-    pub fn past_token(self, s: &[u8]) -> Cursor
-        requires { ⌜ self .at .0 ≤ length (now s) ⌝ }
+    pub fn past_token(self, classes: &[u8; 256], s: &[u8]) -> Cursor
+        requires { ⌜ (self .at .0 ≤ length (now s)) × Classes (now classes) ⌝ }
         ensures { λ r. ⌜ Passed isToken (now (s .entry)) (self .at .0) (r .at .0) ⌝ }
     {
-        self.past(s, Set::Token)
+        self.past(classes, s, Set::Token)
     }
 
     // Past what a value without quotes holds behind its token octets: in the older edition a run that begins with a further octet.
-    pub fn past_further(self, s: &[u8], edition: Edition) -> Cursor
-        requires { ⌜ Ended isToken (now s) (self .at .0) ⌝ }
+    pub fn past_further(self, classes: &[u8; 256], s: &[u8], edition: Edition) -> Cursor
+        requires { ⌜ Ended isToken (now s) (self .at .0) × Classes (now classes) ⌝ }
         ensures { λ r. ⌜ Passed (isBare (further edition)) (now (s .entry)) (self .at .0) (r .at .0) ⌝ }
     {
         match edition {
             Edition::Rfc8288 => self,
-            Edition::Rfc5988 => self.past(s, Set::Ptoken),
+            Edition::Rfc5988 => self.past(classes, s, Set::Ptoken),
         }
     }
 
     // Past a run of octets that stand for themselves in a target.
-    pub fn past_target(self, s: &[u8]) -> Cursor
-        requires { ⌜ self .at .0 ≤ length (now s) ⌝ }
+    pub fn past_target(self, classes: &[u8; 256], s: &[u8]) -> Cursor
+        requires { ⌜ (self .at .0 ≤ length (now s)) × Classes (now classes) ⌝ }
         ensures { λ r. ⌜ Passed isTarget (now (s .entry)) (self .at .0) (r .at .0) ⌝ }
     {
-        self.past(s, Set::Target)
+        self.past(classes, s, Set::Target)
     }
 
     // Past a run of octets that stand for themselves in a quoted string.
-    pub fn past_plain(self, s: &[u8]) -> Cursor
-        requires { ⌜ self .at .0 ≤ length (now s) ⌝ }
+    pub fn past_plain(self, classes: &[u8; 256], s: &[u8]) -> Cursor
+        requires { ⌜ (self .at .0 ≤ length (now s)) × Classes (now classes) ⌝ }
         ensures { λ r. ⌜ Passed isPlain (now (s .entry)) (self .at .0) (r .at .0) ⌝ }
     {
-        self.past(s, Set::Plain)
+        self.past(classes, s, Set::Plain)
     }
 }

@@ -4,6 +4,7 @@ pub mod octets_given;
 
 ghost use Prim.Native.Nat.{_≤_};
 ghost use lib.ListN.{length};
+ghost use Rattle.octet_classes.specs.Classes.{Classes};
 ghost use Rattle.decoding.specs.Judged.{IsJudged};
 use crate::fronts::Behind;
 use crate::fronts::past_charset;
@@ -20,8 +21,8 @@ pub enum Judged {
 }
 
 // Judges the part of the text as an extended value.
-pub fn judge(s: &[u8], part: Span, escapes: bool) -> Judged
-    requires { ⌜ part .to .0 ≤ length (now s) ⌝ }
+pub fn judge(classes: &[u8; 256], s: &[u8], part: Span, escapes: bool) -> Judged
+    requires { ⌜ (part .to .0 ≤ length (now s)) × Classes (now classes) ⌝ }
     ensures { λ r. ⌜ IsJudged escapes (now (s .entry)) (part .to .0) (part .from .0) r ⌝ }
 {
     let e = part.to;
@@ -30,7 +31,7 @@ pub fn judge(s: &[u8], part: Span, escapes: bool) -> Judged
     match chars {
         Behind::Nowhere => Judged::Wrong,
         Behind::At(from) => {
-            let measured = measure(s, from, e, escapes);
+            let measured = measure(classes, s, from, e, escapes);
             match measured {
                 Measured::Unfit => Judged::Wrong,
                 Measured::Count(n) => Judged::Right(from, n),

@@ -8,6 +8,7 @@ ghost use Rattle.kinds.specs.Put.{Put};
 ghost use Rattle.extended.specs.Decoded.{given};
 ghost use Rattle.sequences.specs.Awaited.{nothing};
 ghost use Rattle.units.specs.Seen.{seen};
+ghost use Rattle.octet_classes.specs.Classes.{Classes};
 ghost use Rattle.decoding.specs.Measured.{measured, told, octetsGiven, IsGiven};
 use kinds::OutPlace;
 use kinds::Place;
@@ -34,8 +35,8 @@ fn finished(awaited: Awaited, n: usize) -> Measured
 }
 
 // Counts the octets given from `from` on, and judges them. Most are attribute characters, which need no look through backslashes.
-pub fn measure(s: &[u8], from: Place, e: Place, escapes: bool) -> Measured
-    requires { ⌜ e .0 ≤ length (now s) ⌝ }
+pub fn measure(classes: &[u8; 256], s: &[u8], from: Place, e: Place, escapes: bool) -> Measured
+    requires { ⌜ (e .0 ≤ length (now s)) × Classes (now classes) ⌝ }
     ensures { λ r. ⌜ told r ≡ measured 0 nothing (given (seen escapes (now (s .entry)) (e .0) (from .0))) ⌝ }
 {
     let mut awaited = Awaited::nothing();
@@ -44,13 +45,13 @@ pub fn measure(s: &[u8], from: Place, e: Place, escapes: bool) -> Measured
     while k.0 < e.0 {
         let at = k.0;
         let c = s[at];
-        if is_attribute(c) {
+        if is_attribute(classes, c) {
             awaited = awaited.behind(c);
             n += 1;
             k = k.next();
             continue;
         }
-        let given = unit(s, k, e, escapes);
+        let given = unit(classes, s, k, e, escapes);
         match given {
             Given::Done => return finished(awaited, n),
             Given::Wrong => return Measured::Unfit,
@@ -66,6 +67,7 @@ pub fn measure(s: &[u8], from: Place, e: Place, escapes: bool) -> Measured
 
 // Writes the octets given into out from place `at` on, and answers the place behind them. They are known to be given.
 pub fn put_given(
+    classes: &[u8; 256],
     s: &[u8],
     from: Place,
     e: Place,
@@ -73,10 +75,9 @@ pub fn put_given(
     out: &mut [u8],
     at: OutPlace,
 ) -> OutPlace
-    requires { ⌜
-        (e .0 ≤ length (now s))
+    requires { ⌜ (e .0 ≤ length (now s))
         × IsGiven (given (seen escapes (now s) (e .0) (from .0)))
-        × (at .0 + length (octetsGiven (given (seen escapes (now s) (e .0) (from .0)))) ≤ length (now out)) ⌝ }
+        × (at .0 + length (octetsGiven (given (seen escapes (now s) (e .0) (from .0)))) ≤ length (now out)) × Classes (now classes) ⌝ }
     ensures { λ r. ⌜
         Put (now (out .entry)) (now (out .exit)) (at .0) (r .0)
         (octetsGiven (given (seen escapes (now (s .entry)) (e .0) (from .0)))) ⌝ }
@@ -87,13 +88,13 @@ pub fn put_given(
         let j = k.0;
         let c = s[j];
         let i = to.0;
-        if is_attribute(c) {
+        if is_attribute(classes, c) {
             out[i] = c;
             to = to.next();
             k = k.next();
             continue;
         }
-        let given = unit(s, k, e, escapes);
+        let given = unit(classes, s, k, e, escapes);
         match given {
             Given::Done => return to,
             Given::Wrong => return to,

@@ -101,9 +101,10 @@ fn take(edition: Edition, state: Feeding, part: &[u8], buffer: &mut [u8]) -> Fee
     ensures { λ r. ⌜ FeedsIn (stateOf state) (now (part .entry)) (now (buffer .entry)) edition
         (feedOut (feedNumbers r) (now (buffer .exit))) (stateOf (feedNumbers r .next)) ⌝ }
 {
+    let classes = octet_classes::table();
     let before = state.total;
     let total = before + part.len();
-    match scan_part(edition, part, before, spot_of(state)) {
+    match scan_part(&classes, edition, part, before, spot_of(state)) {
         PartScan::Stuck(at) => {
             let place = before + at.0;
             FeedAnswer::Malformed(Place(place), moved(state, total, place))

@@ -4,6 +4,7 @@ ghost use mathlib.Core.Bool.{false};
 ghost use Prim.Native.Nat.{_<_};
 ghost use Rattle.grammar.specs.Records.{paramRoom};
 ghost use Rattle.octets.specs.Editions.{further};
+ghost use Rattle.octet_classes.specs.Classes.{Classes};
 ghost use Rattle.filling.specs.Filling.{KeptOnce, BeforeParams, ParamsFilled};
 use cursor::Cursor;
 use kinds::ParamNumber;
@@ -32,13 +33,14 @@ fn keep(params: &mut [usize], m: ParamNumber, r: ParamRecord, again: bool) -> Pa
 
 // Writes the records of a link's kept parameters, from number m on.
 pub fn fill_params(
+    classes: &[u8; 256],
     edition: Edition,
     s: &[u8],
     from: Cursor,
     params: &mut [usize],
     m: ParamNumber,
 ) -> Behind
-    requires { ⌜ BeforeParams (further edition) (now s) (now params) (from .at .0) (m .0) ⌝ }
+    requires { ⌜ BeforeParams (further edition) (now s) (now params) (from .at .0) (m .0) × Classes (now classes) ⌝ }
     ensures { λ r. ⌜ ParamsFilled (further edition) (now (s .entry)) (from .at .0) (r .cursor .at .0) (m .0) (r .next .0)
         (now (params .entry)) (now (params .exit)) ⌝ }
 {
@@ -46,11 +48,11 @@ pub fn fill_params(
     let mut n = m;
     let mut seen = Seen::none();
     loop {
-        let i = c.past_blanks(s);
+        let i = c.past_blanks(classes, s);
         if !i.sees(s, b';') {
             return Behind { cursor: i, next: n };
         }
-        let p = read_param(edition, s, i.past_octet(s).past_blanks(s));
+        let p = read_param(classes, edition, s, i.past_octet(s).past_blanks(classes, s));
         let parts = p.parts;
         let name = parts.name;
         let code = names::code(s, name);

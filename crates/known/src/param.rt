@@ -2,6 +2,7 @@
 ghost use Rattle.octets.specs.Editions.{further};
 ghost use Rattle.records.specs.Slots.{toParam};
 ghost use Rattle.scan_parts.specs.Parsed.{Parsed};
+ghost use Rattle.octet_classes.specs.Classes.{Classes};
 ghost use Rattle.known.specs.Known.{KnownParam};
 use crate::value::read_value;
 use cursor::Cursor;
@@ -14,15 +15,15 @@ pub struct ParamRead {
     pub next: Cursor,
 }
 
-pub fn read_param(edition: Edition, s: &[u8], from: Cursor) -> ParamRead
-    requires { ⌜ KnownParam (further edition) (now s) (from .at .0) ⌝ }
+pub fn read_param(classes: &[u8; 256], edition: Edition, s: &[u8], from: Cursor) -> ParamRead
+    requires { ⌜ KnownParam (further edition) (now s) (from .at .0) × Classes (now classes) ⌝ }
     ensures { λ r. ⌜ Parsed (further edition) (now (s .entry)) (from .at .0) (toParam (r .parts)) (r .next .at .0) ⌝ }
 {
-    let e = from.past_token(s);
+    let e = from.past_token(classes, s);
     let name = from.span_to(e);
-    let k = e.past_blanks(s);
+    let k = e.past_blanks(classes, s);
     if k.sees(s, b'=') {
-        let v = read_value(edition, s, k.past_octet(s).past_blanks(s));
+        let v = read_value(classes, edition, s, k.past_octet(s).past_blanks(classes, s));
         let value = v.span;
         let next = v.next;
         return ParamRead {

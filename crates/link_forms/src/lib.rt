@@ -9,6 +9,7 @@ ghost use Rattle.records.specs.Slots.{toLink};
 ghost use Rattle.tables.specs.Table.{tableOf};
 ghost use Rattle.tables.specs.Good.{InText};
 ghost use Rattle.shape.specs.Forms.{linkForm, parting, GoodRun};
+ghost use Rattle.octet_classes.specs.Classes.{Classes};
 use kinds::Counts;
 use kinds::LinkNumber;
 use kinds::OutPlace;
@@ -30,10 +31,18 @@ fn put_parting(out: &mut [u8], at: OutPlace, first: bool) -> OutPlace
 }
 
 // One link: `<`, target, `>` and its parameters.
-fn put_link(text: &[u8], params: &[usize], l: LinkRecord, out: &mut [u8], at: OutPlace) -> OutPlace
+fn put_link(
+    classes: &[u8; 256],
+    text: &[u8],
+    params: &[usize],
+    l: LinkRecord,
+    out: &mut [u8],
+    at: OutPlace,
+) -> OutPlace
     requires { ⌜ InText (now text) (l .target .from .0) (l .target .to .0) ⌝ }
     requires { ⌜ GoodRun (now text) (now params) (l .first .0) (l .first .0 + l .count) ⌝ }
     requires { ⌜ at .0 + length (linkForm (now text) (toLink (now params) l)) ≤ length (now out) ⌝ }
+    requires { ⌜ Classes (now classes) ⌝ }
     ensures { λ r. ⌜ Put (now (out .entry)) (now (out .exit)) (at .0) (r .0)
         (linkForm (now (text .entry)) (toLink (now (params .entry)) l)) ⌝ }
 {
@@ -42,11 +51,12 @@ fn put_link(text: &[u8], params: &[usize], l: LinkRecord, out: &mut [u8], at: Ou
     let behind = put(out, close, b'>');
     let first = l.first;
     let end = first.plus(l.count);
-    put_params(text, params, first, end, out, behind)
+    put_params(classes, text, params, first, end, out, behind)
 }
 
 // All links, from the buffer's first octet on.
 pub fn put_links(
+    classes: &[u8; 256],
     text: &[u8],
     links: &[usize],
     params: &[usize],
@@ -56,6 +66,7 @@ pub fn put_links(
     requires { ⌜ Usable Rfc5988 (tableOf (now text) (now links) (now params) (counts .links) (counts .params)) ⌝ }
     requires { ⌜
         length (writtenForm (tableOf (now text) (now links) (now params) (counts .links) (counts .params))) ≤ length (now out) ⌝ }
+    requires { ⌜ Classes (now classes) ⌝ }
     ensures { λ r. ⌜ Put (now (out .entry)) (now (out .exit)) 0 (r .0)
         (writtenForm (tableOf (now (text .entry)) (now (links .entry)) (now (params .entry)) (counts .links) (counts .params))) ⌝ }
 {
@@ -64,7 +75,7 @@ pub fn put_links(
     while i.0 < counts.links {
         let l = records::link_at(links, i);
         let behind = put_parting(out, at, i.0 == 0);
-        at = put_link(text, params, l, out, behind);
+        at = put_link(classes, text, params, l, out, behind);
         i = i.next();
     }
     at

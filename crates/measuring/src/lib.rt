@@ -9,6 +9,7 @@ ghost use Rattle.outcomes.specs.Usable.{Usable};
 ghost use Rattle.outcomes.specs.Write.{writtenForm};
 ghost use Rattle.tables.specs.Table.{tableOf};
 ghost use Rattle.shape.specs.Forms.{paramsLeft, parting, GoodRun};
+ghost use Rattle.octet_classes.specs.Classes.{Classes};
 ghost use Rattle.measuring.specs.Measured.{Measured};
 use answers::LIMIT;
 use kinds::Counts;
@@ -19,6 +20,7 @@ use shape::value_len;
 // The octets `before`, and those of the parameters from number `first` up to `end`: of each its name and its value, and 3 for `;`, a
 // space and `=`.
 fn params_len(
+    classes: &[u8; 256],
     text: &[u8],
     params: &[usize],
     first: ParamNumber,
@@ -27,13 +29,14 @@ fn params_len(
 ) -> usize
     requires { ⌜ GoodRun (now text) (now params) (first .0) (end .0) ⌝ }
     requires { ⌜ length (now text) ≤ limit ⌝ }
+    requires { ⌜ Classes (now classes) ⌝ }
     ensures { λ r. ⌜ Measured (before + length (paramsLeft (now (text .entry)) (now (params .entry)) (end .0) (first .0))) r ⌝ }
 {
     let mut n = before;
     let mut p = first;
     while p.0 < end.0 && n <= LIMIT {
         let param = records::parts_at(params, p);
-        n += param.name.len() + value_len(text, param) + 3;
+        n += param.name.len() + value_len(classes, text, param) + 3;
         p = p.next();
     }
     n
@@ -47,8 +50,14 @@ fn parting_len(first: bool) -> usize
 }
 
 // The length of the whole form: of each link what parts it from the one before, its target in `<` and `>`, and its parameters.
-pub fn form_len(text: &[u8], links: &[usize], params: &[usize], counts: Counts) -> usize
-    requires { ⌜ Usable Rfc5988 (tableOf (now text) (now links) (now params) (counts .links) (counts .params)) ⌝ }
+pub fn form_len(
+    classes: &[u8; 256],
+    text: &[u8],
+    links: &[usize],
+    params: &[usize],
+    counts: Counts,
+) -> usize
+    requires { ⌜ Usable Rfc5988 (tableOf (now text) (now links) (now params) (counts .links) (counts .params)) × Classes (now classes) ⌝ }
     ensures { λ r. ⌜ Measured
         (length (writtenForm (tableOf (now (text .entry)) (now (links .entry)) (now (params .entry)) (counts .links) (counts .params)))) r ⌝ }
 {
@@ -60,7 +69,7 @@ pub fn form_len(text: &[u8], links: &[usize], params: &[usize], counts: Counts) 
         let target = l.target.len() + 2;
         let first = l.first;
         let end = first.plus(l.count);
-        n = params_len(text, params, first, end, n + parting + target);
+        n = params_len(classes, text, params, first, end, n + parting + target);
         i = i.next();
     }
     n

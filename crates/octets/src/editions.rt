@@ -1,7 +1,5 @@
 // The editions of the grammar. They differ in the octets that a value without quotes may hold beside those of a token.
-ghost use mathlib.Core.Path.{_≡_};
-ghost use Rattle.octets.specs.Editions.{further, IsAsked};
-use crate::sets::is_older;
+ghost use Rattle.octets.specs.Editions.{IsAsked};
 
 // The numbers that ask for them.
 pub const RFC8288: usize = 0;
@@ -28,15 +26,5 @@ pub fn edition_of(number: usize) -> Asked
         RFC8288 => Asked::Known(Edition::Rfc8288),
         RFC5988 => Asked::Known(Edition::Rfc5988),
         _ => Asked::Unknown,
-    }
-}
-
-// Whether a value without quotes may hold the octet though a token may not.
-pub fn is_further(edition: Edition, c: u8) -> bool
-    ensures { λ r. ⌜ r ≡ further edition c ⌝ }
-{
-    match edition {
-        Edition::Rfc8288 => false,
-        Edition::Rfc5988 => is_older(c),
     }
 }

@@ -4,6 +4,7 @@ ghost use Prim.Native.Nat.{_+_, _≤_, _<_, _^_};
 ghost use lib.ListN.{length};
 ghost use Rattle.octets.specs.Editions.{further};
 ghost use Rattle.phases.specs.Spots.{Normal, spot};
+ghost use Rattle.octet_classes.specs.Classes.{Classes};
 ghost use Rattle.part_scan.specs.Moved.{Moved, judgedTo};
 use crate::outside::Step;
 use crate::outside::outside;
@@ -28,8 +29,15 @@ pub enum Move {
 }
 
 // Past the octet that stands here.
-fn behind(edition: Edition, s: &[u8], base: usize, spot: Spot, c: Cursor) -> Move
-    requires { ⌜ (c .at .0 ≤ length (now s)) × (base + length (now s) < 2 ^ 64) ⌝ }
+fn behind(
+    classes: &[u8; 256],
+    edition: Edition,
+    s: &[u8],
+    base: usize,
+    spot: Spot,
+    c: Cursor,
+) -> Move
+    requires { ⌜ (c .at .0 ≤ length (now s)) × (base + length (now s) < 2 ^ 64) × Classes (now classes) ⌝ }
     ensures { λ r. ⌜ Moved (further edition) (now (s .entry)) base spot (c .at .0) r ⌝ }
 {
     let at = c.at;
@@ -38,7 +46,7 @@ fn behind(edition: Edition, s: &[u8], base: usize, spot: Spot, c: Cursor) -> Mov
         return Move::End(spot);
     }
     let after = base + i + 1;
-    let next = onward(edition, spot, Place(after), s[i]);
+    let next = onward(classes, edition, spot, Place(after), s[i]);
     if next.phase == phases::STUCK {
         return Move::Halt(at);
     }
@@ -50,12 +58,12 @@ fn behind(edition: Edition, s: &[u8], base: usize, spot: Spot, c: Cursor) -> Mov
 }
 
 // The spot behind a target's octets from one cursor to another.
-fn judged_to(s: &[u8], spot: Spot, from: Cursor, to: Cursor) -> Spot
-    requires { ⌜ (from .at .0 ≤ to .at .0) × (to .at .0 ≤ length (now s)) ⌝ }
+fn judged_to(classes: &[u8; 256], s: &[u8], spot: Spot, from: Cursor, to: Cursor) -> Spot
+    requires { ⌜ (from .at .0 ≤ to .at .0) × (to .at .0 ≤ length (now s)) × Classes (now classes) ⌝ }
     ensures { λ r. ⌜ r ≡ judgedTo (now (s .entry)) spot (from .at .0) (to .at .0) ⌝ }
 {
     let target = spot.target;
-    let judged = run_over(s, from.span_to(to), spot.judged);
+    let judged = run_over(classes, s, from.span_to(to), spot.judged);
     Spot {
         phase: spot.phase,
         target,
@@ -64,23 +72,44 @@ fn judged_to(s: &[u8], spot: Spot, from: Cursor, to: Cursor) -> Spot
 }
 
 // In a target: past its octets, and past the one behind them.
-fn on_in_target(edition: Edition, s: &[u8], base: usize, spot: Spot, c: Cursor) -> Move
-    requires { ⌜ (c .at .0 ≤ length (now s)) × (base + length (now s) < 2 ^ 64) × (spot .phase ≡ 1) ⌝ }
+fn on_in_target(
+    classes: &[u8; 256],
+    edition: Edition,
+    s: &[u8],
+    base: usize,
+    spot: Spot,
+    c: Cursor,
+) -> Move
+    requires { ⌜ (c .at .0 ≤ length (now s)) × (base + length (now s) < 2 ^ 64) × (spot .phase ≡ 1) × Classes (now classes) ⌝ }
     ensures { λ r. ⌜ Moved (further edition) (now (s .entry)) base spot (c .at .0) r ⌝ }
 {
-    let d = past_blocks(s, c).past_target(s);
-    behind(edition, s, base, judged_to(s, spot, c, d), d)
+    let d = past_blocks(s, c).past_target(classes, s);
+    behind(
+        classes,
+        edition,
+        s,
+        base,
+        judged_to(classes, s, spot, c, d),
+        d,
+    )
 }
 
 // In a target, or in a triple of one.
-fn in_target(edition: Edition, s: &[u8], base: usize, spot: Spot, c: Cursor) -> Move
-    requires { ⌜ (c .at .0 ≤ length (now s)) × (base + length (now s) < 2 ^ 64) ⌝ }
+fn in_target(
+    classes: &[u8; 256],
+    edition: Edition,
+    s: &[u8],
+    base: usize,
+    spot: Spot,
+    c: Cursor,
+) -> Move
+    requires { ⌜ (c .at .0 ≤ length (now s)) × (base + length (now s) < 2 ^ 64) × Classes (now classes) ⌝ }
     ensures { λ r. ⌜ Moved (further edition) (now (s .entry)) base spot (c .at .0) r ⌝ }
 {
     if spot.phase == phases::TARGET {
-        return on_in_target(edition, s, base, spot, c);
+        return on_in_target(classes, edition, s, base, spot, c);
     }
-    behind(edition, s, base, spot, c)
+    behind(classes, edition, s, base, spot, c)
 }
 
 // Behind the `<` of a target, which is open there.
@@ -95,14 +124,21 @@ fn opened(at: usize) -> Spot
 }
 
 // In a target past some octets of it, and outside of targets as far as one opens.
-pub fn go_on(edition: Edition, s: &[u8], base: usize, spot: Spot, c: Cursor) -> Move
-    requires { ⌜ (c .at .0 ≤ length (now s)) × (base + length (now s) < 2 ^ 64) × Normal spot ⌝ }
+pub fn go_on(
+    classes: &[u8; 256],
+    edition: Edition,
+    s: &[u8],
+    base: usize,
+    spot: Spot,
+    c: Cursor,
+) -> Move
+    requires { ⌜ (c .at .0 ≤ length (now s)) × (base + length (now s) < 2 ^ 64) × Normal spot × Classes (now classes) ⌝ }
     ensures { λ r. ⌜ Moved (further edition) (now (s .entry)) base spot (c .at .0) r ⌝ }
 {
     if is_open(spot.phase) {
-        return in_target(edition, s, base, spot, c);
+        return in_target(classes, edition, s, base, spot, c);
     }
-    match outside(edition, s, spot.phase, c) {
+    match outside(classes, edition, s, spot.phase, c) {
         Step::End(phase) => Move::End(flat(phase)),
         Step::Halt(at) => Move::Halt(at),
         Step::Open(d) => Move::To(opened(base + d.at.0), d),

@@ -3,6 +3,7 @@ ghost use Prim.Native.Nat.{_+_, _<_, _^_};
 ghost use lib.ListN.{length};
 ghost use Rattle.octets.specs.Editions.{further};
 ghost use Rattle.phases.specs.Spots.{normal};
+ghost use Rattle.octet_classes.specs.Classes.{Classes};
 ghost use Rattle.part_scan.specs.Moved.{PartScanned};
 use crate::go_on::Move;
 use crate::go_on::go_on;
@@ -24,14 +25,20 @@ pub enum PartScan {
 }
 
 // A part before which `base` octets of the header stand.
-pub fn scan_part(edition: Edition, part: &[u8], base: usize, from: Spot) -> PartScan
-    requires { ⌜ base + length (now part) < 2 ^ 64 ⌝ }
+pub fn scan_part(
+    classes: &[u8; 256],
+    edition: Edition,
+    part: &[u8],
+    base: usize,
+    from: Spot,
+) -> PartScan
+    requires { ⌜ (base + length (now part) < 2 ^ 64) × Classes (now classes) ⌝ }
     ensures { λ r. ⌜ PartScanned (further edition) (now (part .entry)) base (normal from) r ⌝ }
 {
     let mut spot = normal(from);
     let mut c = Cursor::start();
     loop {
-        match go_on(edition, part, base, spot, c) {
+        match go_on(classes, edition, part, base, spot, c) {
             Move::End(last) => {
                 return PartScan::Through(last);
             }

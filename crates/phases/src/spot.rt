@@ -1,6 +1,7 @@
 // Where a reading stands between two octets.
 ghost use mathlib.Core.Path.{_≡_};
 ghost use Rattle.octets.specs.Editions.{further};
+ghost use Rattle.octet_classes.specs.Classes.{Classes};
 ghost use Rattle.phases.specs.Spots.{isOpen, flat, normal, onward, behindTarget};
 use crate::AFTER;
 use crate::HEX;
@@ -51,7 +52,8 @@ pub fn normal(spot: Spot) -> Spot
 }
 
 // In a target, whose octet leads to this phase.
-fn behind_target(spot: Spot, phase: usize, c: u8) -> Spot
+fn behind_target(classes: &[u8; 256], spot: Spot, phase: usize, c: u8) -> Spot
+    requires { ⌜ Classes (now classes) ⌝ }
     ensures { λ r. ⌜ r ≡ behindTarget spot phase c ⌝ }
 {
     let target = spot.target;
@@ -59,7 +61,7 @@ fn behind_target(spot: Spot, phase: usize, c: u8) -> Spot
         return Spot {
             phase,
             target,
-            judged: next(spot.judged, c),
+            judged: next(classes, spot.judged, c),
         };
     }
     if accepts(spot.judged) {
@@ -73,12 +75,13 @@ fn behind_target(spot: Spot, phase: usize, c: u8) -> Spot
 }
 
 // The spot behind the octet c, behind which the place `after` of the header is.
-pub fn onward(edition: Edition, spot: Spot, after: Place, c: u8) -> Spot
+pub fn onward(classes: &[u8; 256], edition: Edition, spot: Spot, after: Place, c: u8) -> Spot
+    requires { ⌜ Classes (now classes) ⌝ }
     ensures { λ r. ⌜ r ≡ onward (further edition) spot (after .0) c ⌝ }
 {
-    let phase = on(edition, spot.phase, c);
+    let phase = on(classes, edition, spot.phase, c);
     if is_open(spot.phase) {
-        return behind_target(spot, phase, c);
+        return behind_target(classes, spot, phase, c);
     }
     if phase == TARGET {
         return Spot {

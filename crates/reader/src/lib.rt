@@ -20,10 +20,11 @@ pub fn read_in(
     ensures { λ r. ⌜ ReadIn edition (now (header .entry)) (now (links .entry)) (now (params .entry))
         (readOut (readNumbers r) (now (links .exit)) (now (params .exit))) ⌝ }
 {
+    let classes = octet_classes::table();
     if header.len() > LIMIT {
         return ReadAnswer::Refused(Refusal::TooLong);
     }
-    match scanner::header::scan(edition, header) {
+    match scanner::header::scan(&classes, edition, header) {
         HeaderScan::Malformed(p) => ReadAnswer::Malformed(p),
         HeaderScan::Counted(counts) => {
             let link_room = records::link_room(links);
@@ -34,7 +35,7 @@ pub fn read_in(
             if param_room < counts.params {
                 return ReadAnswer::Refused(Refusal::NoParamRoom);
             }
-            filling::fill(edition, header, links, params);
+            filling::fill(&classes, edition, header, links, params);
             ReadAnswer::Done(counts)
         }
     }

@@ -3,8 +3,11 @@ ghost use mathlib.Core.Path.{_≡_};
 ghost use Prim.Native.Nat.{_≤_, _<_};
 ghost use Rattle.reference_steps.specs.Machine.{step, grouped, fits4, groupBegins, groupGoesOn, moreDigits, groupEnds, addressEnds, inGroup};
 ghost use Rattle.reference_sets.specs.Sets.{of};
+ghost use Rattle.octet_classes.specs.Classes.{Classes};
 ghost use Rattle.reference_literal.specs.Groups.{Grouped};
 use crate::numbers::number;
+use octet_classes::Set;
+use octet_classes::is_in;
 use reference_sets::picking::NOWHERE;
 use reference_sets::picking::pick;
 
@@ -75,11 +78,11 @@ fn address_ends(z: usize, g: usize, d: usize, t: usize) -> usize
     pick((z == 1) | (g == 7), 12, NOWHERE)
 }
 
-fn group_at(z: usize, g: usize, d: usize, t: usize, c: u8) -> usize
-    requires { ⌜ Grouped z g d t ⌝ }
+fn group_at(classes: &[u8; 256], z: usize, g: usize, d: usize, t: usize, c: u8) -> usize
+    requires { ⌜ Grouped z g d t × Classes (now classes) ⌝ }
     ensures { λ r. ⌜ r ≡ inGroup (of c) z g d t ⌝ }
 {
-    if octets::sets::is_hex(c) {
+    if is_in(classes, Set::Hex, c) {
         return more_digits(z, g, d, t, c);
     }
     if c == b':' {
@@ -91,10 +94,10 @@ fn group_at(z: usize, g: usize, d: usize, t: usize, c: u8) -> usize
     pick((c == b'.') & (0 < d) & (0 < t), 66, NOWHERE)
 }
 
-pub fn in_group(q: usize, c: u8) -> usize
-    requires { ⌜ (100 ≤ q) × (q < 580) ⌝ }
+pub fn in_group(classes: &[u8; 256], q: usize, c: u8) -> usize
+    requires { ⌜ (100 ≤ q) × (q < 580) × Classes (now classes) ⌝ }
     ensures { λ r. ⌜ r ≡ step q c ⌝ }
 {
     let p = q - 100;
-    group_at(p / 240, p / 30 % 8, p / 6 % 5, p % 6, c)
+    group_at(classes, p / 240, p / 30 % 8, p / 6 % 5, p % 6, c)
 }

@@ -2,15 +2,16 @@
 use Prim.Native.Nat.{ℕ}
 use native.Mathlib.Omega.{arith}
 use mathlib.Core.Path.{_≡_, refl}
-use mathlib.Core.Bool.{Bool, true, false, not, _||_}
-use lib.Dec.{eqb, ltb}
-use borrow.Author.Tests.{ltb-true, eqb-true}
-use Rattle.octets.specs.Bits.{inBits}
-use Rattle.octets.proofs.Octets.{every, both, every-at, only-if, within, or-octets, between-octets, one-octets}
+use mathlib.Core.Bool.{Bool, true, false, _||_}
+use lib.Dec.{eqb}
+use borrow.Author.Tests.{eqb-true}
+use Rattle.octets.proofs.Octets.{within, or-octets, between-octets, one-octets}
 use Rattle.references.specs.Octets.{ALPHA}
 use Rattle.references.proofs.SetOctets.{has-octets}
 use Rattle.reference_steps.specs.Machine.{step}
 use Rattle.reference_sets.specs.Sets.{isPath}
+use Rattle.reference_sets.specs.Runs.{inRun}
+use Rattle.reference_sets.specs.declared.sets.Run.the-variants.{Host, Port, Scheme, Segment}
 use Rattle.reference_scan.specs.Common.{isCommon}
 use Rattle.reference_scan.specs.Passed.{keeps}
 
@@ -25,13 +26,6 @@ common-path =
     (one-octets 126 (omega arith))))
     refl
 
--- bits stand for octets below 128
-pub bits-within : (low high : ℕ) (g : ℕ → Bool) →
-    every (λ c. not (inBits low high c) || g c) 128 ≡ true → (c : ℕ) → inBits low high c ≡ true → g c ≡ true
-unfolding inBits
-bits-within low high g e c h =
-    only-if (inBits low high c) (g c) (every-at (λ k. not (inBits low high k) || g k) 128 e c (ltb-true c 128 (both (ltb c 128) _ h .0))) h
-
 -- what goes on in a path keeps its state, and a fragment's
 pub path-keeps : (c : ℕ) → isPath c ≡ true → keeps 13 c ≡ true
 unfolding step
@@ -40,6 +34,31 @@ path-keeps c h = rw h
 pub fragment-keeps : (c : ℕ) → isPath c ≡ true → keeps 15 c ≡ true
 unfolding step
 fragment-keeps c h = rw h
+
+-- the octets of each other run keep the states that it is passed in
+pub authority-keeps : (c : ℕ) → inRun Host c ≡ true → keeps 6 c ≡ true
+unfolding step
+authority-keeps c h = rw h
+
+pub host-keeps : (c : ℕ) → inRun Host c ≡ true → keeps 10 c ≡ true
+unfolding step
+host-keeps c h = rw h
+
+pub number-keeps : (c : ℕ) → inRun Port c ≡ true → keeps 7 c ≡ true
+unfolding step
+number-keeps c h = rw h
+
+pub port-keeps : (c : ℕ) → inRun Port c ≡ true → keeps 11 c ≡ true
+unfolding step
+port-keeps c h = rw h
+
+pub scheme-keeps : (c : ℕ) → inRun Scheme c ≡ true → keeps 1 c ≡ true
+unfolding step
+scheme-keeps c h = rw h
+
+pub segment-keeps : (c : ℕ) → inRun Segment c ≡ true → keeps 2 c ≡ true
+unfolding step
+segment-keeps c h = rw h
 
 -- what keeps each of two states keeps either of them
 pub either-keeps : {f : ℕ → Bool} (p r : ℕ) → ((c : ℕ) → f c ≡ true → keeps p c ≡ true) → ((c : ℕ) → f c ≡ true → keeps r c ≡ true) →

@@ -5,6 +5,7 @@ ghost use lib.ListN.{length};
 ghost use lib.Seq.{slice};
 ghost use Rattle.reference_steps.specs.Machine.{run, accepts};
 ghost use Rattle.reference_sets.specs.Sets.{isPath};
+ghost use Rattle.octet_classes.specs.Classes.{Classes};
 ghost use Rattle.reference_scan.specs.Judges.{Judges};
 ghost use Rattle.reference_scan.specs.Passed.{Passed};
 use cursor::Cursor;
@@ -32,14 +33,14 @@ fn judged_up_to(i: usize, state: usize) -> Judged
 }
 
 // On in the state `state`, past all octets that the machine takes, up to the first that leads nowhere or the text's end.
-pub fn judge(s: &[u8], from: Cursor, state: usize) -> Judged
-    requires { ⌜ from .at .0 ≤ length (now s) ⌝ }
+pub fn judge(classes: &[u8; 256], s: &[u8], from: Cursor, state: usize) -> Judged
+    requires { ⌜ (from .at .0 ≤ length (now s)) × Classes (now classes) ⌝ }
     ensures { λ r. ⌜ Judges (now (s .entry)) (from .at .0) state r ⌝ }
 {
     let i = from.at.0;
-    let opened = opening::past_opening(s, i, state);
+    let opened = opening::past_opening(classes, s, i, state);
     let begun = opening::past_first_block(s, opened.at.at.0, opened.state);
-    walking::walk(s, begun.at.at.0, begun.state)
+    walking::walk(classes, s, begun.at.at.0, begun.state)
 }
 
 // Past whole blocks of octets of which most references are made, wherever in one they stand.
@@ -52,13 +53,13 @@ pub fn past_blocks(s: &[u8], from: Cursor) -> Cursor
 }
 
 // The state behind a part of the text.
-pub fn run_over(s: &[u8], part: Span, state: usize) -> usize
-    requires { ⌜ (part .from .0 ≤ part .to .0) × (part .to .0 ≤ length (now s)) ⌝ }
+pub fn run_over(classes: &[u8; 256], s: &[u8], part: Span, state: usize) -> usize
+    requires { ⌜ (part .from .0 ≤ part .to .0) × (part .to .0 ≤ length (now s)) × Classes (now classes) ⌝ }
     ensures { λ r. ⌜ r ≡ run state (slice (part .from .0) (part .to .0) (now (s .entry))) ⌝ }
 {
     let from = part.from;
     let to = part.to.0;
-    let j = judge(&s[..to], Cursor { at: from }, state);
+    let j = judge(classes, &s[..to], Cursor { at: from }, state);
     if j.at.at.0 < to {
         return NOWHERE;
     }
@@ -66,9 +67,9 @@ pub fn run_over(s: &[u8], part: Span, state: usize) -> usize
 }
 
 // Whether a part of the text is a reference.
-pub fn is_reference(s: &[u8], part: Span) -> bool
-    requires { ⌜ (part .from .0 ≤ part .to .0) × (part .to .0 ≤ length (now s)) ⌝ }
+pub fn is_reference(classes: &[u8; 256], s: &[u8], part: Span) -> bool
+    requires { ⌜ (part .from .0 ≤ part .to .0) × (part .to .0 ≤ length (now s)) × Classes (now classes) ⌝ }
     ensures { λ r. ⌜ r ≡ accepts (run 0 (slice (part .from .0) (part .to .0) (now (s .entry)))) ⌝ }
 {
-    accepts(run_over(s, part, 0))
+    accepts(run_over(classes, s, part, 0))
 }

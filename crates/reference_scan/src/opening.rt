@@ -4,6 +4,7 @@ ghost use mathlib.Core.Path.{_≡_};
 ghost use mathlib.Core.Bool.{true};
 ghost use Prim.Native.Nat.{_+_, _≤_};
 ghost use lib.ListN.{length};
+ghost use Rattle.octet_classes.specs.Classes.{Classes};
 ghost use Rattle.reference_scan.specs.Common.{isHosted};
 ghost use Rattle.reference_scan.specs.Comes.{Comes};
 use crate::Judged;
@@ -45,26 +46,26 @@ fn opening(s: &[u8], i: usize) -> usize
 }
 
 // Whether a path begins here with its slash, and no authority.
-fn sees_root(s: &[u8], i: usize) -> bool
-    requires { ⌜ i ≤ length (now s) ⌝ }
+fn sees_root(classes: &[u8; 256], s: &[u8], i: usize) -> bool
+    requires { ⌜ (i ≤ length (now s)) × Classes (now classes) ⌝ }
     ensures { λ r. ⌜ (r ≡ true → Comes (now (s .entry)) i 0 (i + 2) 13) ⌝ }
 {
     if s.len() - i < 2 {
         return false;
     }
     let c = s[i + 1];
-    (s[i] == b'/') & (c != b'/') & is_path(c)
+    (s[i] == b'/') & (c != b'/') & is_path(classes, c)
 }
 
 // Past what begins a reference here, if that is one of these.
-pub fn past_opening(s: &[u8], i: usize, q: usize) -> Judged
-    requires { ⌜ i ≤ length (now s) ⌝ }
+pub fn past_opening(classes: &[u8; 256], s: &[u8], i: usize, q: usize) -> Judged
+    requires { ⌜ (i ≤ length (now s)) × Classes (now classes) ⌝ }
     ensures { λ r. ⌜ Comes (now (s .entry)) i q (r .at .at .0) (r .state) ⌝ }
 {
     if q != 0 {
         return judged_up_to(i, q);
     }
-    if sees_root(s, i) {
+    if sees_root(classes, s, i) {
         return judged_up_to(i + 2, 13);
     }
     if s.len() - i < 8 {

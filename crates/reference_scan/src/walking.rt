@@ -1,6 +1,7 @@
 // On from any state: runs that keep it, and between them a step.
 ghost use Prim.Native.Nat.{_≤_};
 ghost use lib.ListN.{length};
+ghost use Rattle.octet_classes.specs.Classes.{Classes};
 ghost use Rattle.reference_scan.specs.Judges.{Judges};
 use crate::Judged;
 use crate::judged_up_to;
@@ -9,14 +10,14 @@ use reference_octet::next;
 use reference_sets::picking::NOWHERE;
 
 // No state takes a `>`, which ends most targets.
-pub fn walk(s: &[u8], from: usize, state: usize) -> Judged
-    requires { ⌜ from ≤ length (now s) ⌝ }
+pub fn walk(classes: &[u8; 256], s: &[u8], from: usize, state: usize) -> Judged
+    requires { ⌜ (from ≤ length (now s)) × Classes (now classes) ⌝ }
     ensures { λ r. ⌜ Judges (now (s .entry)) from state r ⌝ }
 {
     let mut i = from;
     let mut q = state;
     loop {
-        i = past_run(s, i, q);
+        i = past_run(classes, s, i, q);
         if i == s.len() {
             return judged_up_to(i, q);
         }
@@ -24,7 +25,7 @@ pub fn walk(s: &[u8], from: usize, state: usize) -> Judged
         if c == b'>' {
             return judged_up_to(i, q);
         }
-        let n = next(q, c);
+        let n = next(classes, q, c);
         if n == NOWHERE {
             return judged_up_to(i, q);
         }

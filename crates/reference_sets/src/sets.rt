@@ -1,22 +1,12 @@
-// Tests of the sets of octets that the machine's states share. The larger ones are held as bits.
+// Tests of the sets of octets that the machine's states share, and of those that are passed in runs.
 ghost use mathlib.Core.Path.{_≡_};
 ghost use Rattle.references.specs.Octets.{has, ALPHA, DIGIT};
+ghost use Rattle.octet_classes.specs.Classes.{Classes};
 ghost use Rattle.reference_steps.specs.Machine.{plain, inScheme};
 ghost use Rattle.reference_sets.specs.Sets.{of, isPath};
-use octets::bits::in_bits;
-
-// The bits of the sets: LOW of the octets below 64, HIGH of those from 64 to 127.
-pub const PLAIN_LOW: u64 = 0x2bff_7fd2_0000_0000;
-
-pub const PLAIN_HIGH: u64 = 0x47ff_fffe_87ff_fffe;
-
-pub const PATH_LOW: u64 = 0xafff_ffd2_0000_0000;
-
-pub const PATH_HIGH: u64 = 0x47ff_fffe_87ff_ffff;
-
-pub const SCHEME_LOW: u64 = 0x03ff_6800_0000_0000;
-
-pub const SCHEME_HIGH: u64 = 0x07ff_fffe_07ff_fffe;
+ghost use Rattle.reference_sets.specs.Runs.{inRun};
+use octet_classes::Set;
+use octet_classes::is_in;
 
 pub fn is_digit(c: u8) -> bool
     ensures { λ r. ⌜ r ≡ has DIGIT c ⌝ }
@@ -31,21 +21,47 @@ pub fn is_alpha(c: u8) -> bool
 }
 
 // Userinfo, host and segments have these in common.
-pub fn is_plain(c: u8) -> bool
+pub fn is_plain(classes: &[u8; 256], c: u8) -> bool
+    requires { ⌜ Classes (now classes) ⌝ }
     ensures { λ r. ⌜ r ≡ plain (of c) ⌝ }
 {
-    in_bits(PLAIN_LOW, PLAIN_HIGH, c)
+    is_in(classes, Set::Host, c)
 }
 
 // An octet of a path or a query, and so of a fragment.
-pub fn is_path(c: u8) -> bool
+pub fn is_path(classes: &[u8; 256], c: u8) -> bool
+    requires { ⌜ Classes (now classes) ⌝ }
     ensures { λ r. ⌜ r ≡ isPath c ⌝ }
 {
-    in_bits(PATH_LOW, PATH_HIGH, c)
+    is_plain(classes, c) | (c == b':') | (c == b'@') | (c == b'/') | (c == b'?')
 }
 
 pub fn is_scheme(c: u8) -> bool
     ensures { λ r. ⌜ r ≡ inScheme (of c) ⌝ }
 {
-    in_bits(SCHEME_LOW, SCHEME_HIGH, c)
+    is_alpha(c) | is_digit(c) | (c == b'+') | (c == b'-') | (c == b'.')
+}
+
+// The runs that keep a state: of a path, a query or a fragment; of an authority, or the host in it; its port; a scheme; a first segment that can't be
+// a scheme.
+pub enum Run {
+    Path,
+    Host,
+    Port,
+    Scheme,
+    Segment,
+}
+
+// Whether the octet is of such a run.
+pub fn is_in_run(classes: &[u8; 256], run: Run, c: u8) -> bool
+    requires { ⌜ Classes (now classes) ⌝ }
+    ensures { λ r. ⌜ r ≡ inRun run c ⌝ }
+{
+    match run {
+        Run::Path => is_path(classes, c),
+        Run::Host => is_plain(classes, c),
+        Run::Port => is_digit(c),
+        Run::Scheme => is_scheme(c),
+        Run::Segment => is_plain(classes, c) | (c == b'@'),
+    }
 }

@@ -3,6 +3,7 @@ ghost use mathlib.Core.Bool.{cond};
 ghost use mathlib.Core.Path.{_≡_};
 ghost use lib.Dec.{eqb};
 ghost use Rattle.octets.specs.Editions.{further};
+ghost use Rattle.octet_classes.specs.Classes.{Classes};
 ghost use Rattle.scan_parts.specs.Stands.{Clear};
 ghost use Rattle.scan_parts.specs.Scanned.{ValueScanned};
 use crate::ParamScan;
@@ -21,13 +22,19 @@ pub fn bare_form(k: Cursor, e: Cursor) -> usize
 }
 
 // With its value, the parameter of this name is whole.
-pub fn past_value(edition: Edition, s: &[u8], name: Span, from: Cursor) -> ParamScan
-    requires { ⌜ Clear (now s) (from .at .0) ⌝ }
+pub fn past_value(
+    classes: &[u8; 256],
+    edition: Edition,
+    s: &[u8],
+    name: Span,
+    from: Cursor,
+) -> ParamScan
+    requires { ⌜ Clear (now s) (from .at .0) × Classes (now classes) ⌝ }
     ensures { λ r. ⌜ ValueScanned (further edition) (now (s .entry)) name (from .at .0) r ⌝ }
 {
     if from.sees(s, b'"') {
         let start = from.past_octet(s);
-        return match past_inside(s, start) {
+        return match past_inside(classes, s, start) {
             Scan::Stuck(p) => ParamScan::NoParam(p),
             Scan::Past(q) => {
                 let value = start.span_to(q);
@@ -42,8 +49,8 @@ pub fn past_value(edition: Edition, s: &[u8], name: Span, from: Cursor) -> Param
             }
         };
     }
-    let k = from.past_token(s);
-    let e = k.past_further(s, edition);
+    let k = from.past_token(classes, s);
+    let e = k.past_further(classes, s, edition);
     if e.at.0 == from.at.0 {
         let at = from.at;
         return ParamScan::NoParam(at);

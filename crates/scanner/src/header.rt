@@ -1,5 +1,6 @@
 // A header: items parted by commas, each empty or one link.
 ghost use Rattle.octets.specs.Editions.{further};
+ghost use Rattle.octet_classes.specs.Classes.{Classes};
 ghost use Rattle.scanner.specs.Linked.{HeaderScanned};
 use crate::HeaderScan;
 use crate::link::LinkScan;
@@ -9,7 +10,8 @@ use kinds::Counts;
 use octets::editions::Edition;
 
 // Judges the whole header, and counts.
-pub fn scan(edition: Edition, s: &[u8]) -> HeaderScan
+pub fn scan(classes: &[u8; 256], edition: Edition, s: &[u8]) -> HeaderScan
+    requires { ⌜ Classes (now classes) ⌝ }
     ensures { λ r. ⌜ HeaderScanned (further edition) (now (s .entry)) r ⌝ }
 {
     let mut c = Cursor::start();
@@ -18,7 +20,7 @@ pub fn scan(edition: Edition, s: &[u8]) -> HeaderScan
         params: 0,
     };
     loop {
-        let i = c.past_blanks(s);
+        let i = c.past_blanks(classes, s);
         if i.at.0 >= s.len() {
             return HeaderScan::Counted(counts);
         }
@@ -30,7 +32,7 @@ pub fn scan(edition: Edition, s: &[u8]) -> HeaderScan
             let at = i.at;
             return HeaderScan::Malformed(at);
         }
-        match past_link(edition, s, i.past_octet(s)) {
+        match past_link(classes, edition, s, i.past_octet(s)) {
             LinkScan::NoLink(p) => {
                 return HeaderScan::Malformed(p);
             }

@@ -4,6 +4,7 @@ ghost use mathlib.Core.Bool.{cond};
 ghost use Prim.Native.Nat.{_+_, _^_, _≤_, _<_};
 ghost use lib.ListN.{length};
 ghost use Rattle.octets.specs.Editions.{further};
+ghost use Rattle.octet_classes.specs.Classes.{Classes};
 ghost use Rattle.scanner.specs.Linked.{ParamsScanned, LinkScanned};
 use cursor::Cursor;
 use kinds::Place;
@@ -32,15 +33,15 @@ fn counted(kept: usize, again: bool) -> usize
 }
 
 // The parameters behind a link's `>`, up to a comma or the end.
-fn past_params(edition: Edition, s: &[u8], from: Cursor) -> LinkScan
-    requires { ⌜ from .at .0 ≤ length (now s) ⌝ }
+fn past_params(classes: &[u8; 256], edition: Edition, s: &[u8], from: Cursor) -> LinkScan
+    requires { ⌜ (from .at .0 ≤ length (now s)) × Classes (now classes) ⌝ }
     ensures { λ r. ⌜ ParamsScanned (further edition) (now (s .entry)) (from .at .0) r ⌝ }
 {
     let mut c = from;
     let mut kept: usize = 0;
     let mut seen = Seen::none();
     loop {
-        let i = c.past_blanks(s);
+        let i = c.past_blanks(classes, s);
         if i.at.0 >= s.len() {
             return LinkScan::Whole(i, kept);
         }
@@ -51,7 +52,7 @@ fn past_params(edition: Edition, s: &[u8], from: Cursor) -> LinkScan
             let at = i.at;
             return LinkScan::NoLink(at);
         }
-        match past_param(edition, s, i.past_octet(s).past_blanks(s)) {
+        match past_param(classes, edition, s, i.past_octet(s).past_blanks(classes, s)) {
             ParamScan::NoParam(p) => {
                 return LinkScan::NoLink(p);
             }
@@ -67,12 +68,12 @@ fn past_params(edition: Edition, s: &[u8], from: Cursor) -> LinkScan
 }
 
 // A link, from its target on.
-pub fn past_link(edition: Edition, s: &[u8], from: Cursor) -> LinkScan
-    requires { ⌜ from .at .0 ≤ length (now s) ⌝ }
+pub fn past_link(classes: &[u8; 256], edition: Edition, s: &[u8], from: Cursor) -> LinkScan
+    requires { ⌜ (from .at .0 ≤ length (now s)) × Classes (now classes) ⌝ }
     ensures { λ r. ⌜ LinkScanned (further edition) (now (s .entry)) (from .at .0) r ⌝ }
 {
-    match past_target(s, from) {
+    match past_target(classes, s, from) {
         Scan::Stuck(p) => LinkScan::NoLink(p),
-        Scan::Past(c) => past_params(edition, s, c.past_octet(s)),
+        Scan::Past(c) => past_params(classes, edition, s, c.past_octet(s)),
     }
 }

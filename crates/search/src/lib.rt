@@ -68,7 +68,8 @@ pub fn search(
     ensures { λ r. ⌜ Search edition (tableOf (now (text .entry)) (now (links .entry)) (now (params .entry)) (counts .links) (counts .params))
         (now (relation .entry)) (searchOut (searchNumbers r)) ⌝ }
 {
-    let state = state_of(edition, text, links, params, counts);
+    let classes = octet_classes::table();
+    let state = state_of(&classes, edition, text, links, params, counts);
     match state {
         TableState::Refused(why) => SearchAnswer::Refused(why),
         TableState::Usable => first_with(text, links, params, counts, relation),

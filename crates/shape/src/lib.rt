@@ -10,9 +10,11 @@ ghost use Rattle.tables.specs.Good.{InText, GoodParam};
 ghost use Rattle.tables.specs.Meaning.{valueOf};
 ghost use Rattle.tables.specs.Written.{isTokenText, writtenValue};
 ghost use Rattle.values.specs.Rest.{rest};
+ghost use Rattle.octet_classes.specs.Classes.{Classes};
 ghost use Rattle.shape.specs.Shape.{escapedLen, lenFor};
 use kinds::Span;
-use octets::sets::is_token;
+use octet_classes::Set;
+use octet_classes::is_in;
 use records::ParamParts;
 use values::meant_at;
 
@@ -35,9 +37,10 @@ fn escaped_len(c: u8) -> usize
 }
 
 // How many octets what the part means takes.
-fn meant_len(s: &[u8], part: Span) -> usize
+fn meant_len(classes: &[u8; 256], s: &[u8], part: Span) -> usize
     requires { ⌜ InText (now s) (part .from .0) (part .to .0) ⌝ }
     requires { ⌜ length (now s) ≤ limit ⌝ }
+    requires { ⌜ Classes (now classes) ⌝ }
     ensures { λ r. ⌜ r ≡ length (writtenValue (rest (now (s .entry)) (part .to .0) (part .from .0))) ⌝ }
 {
     let e = part.to;
@@ -52,27 +55,28 @@ fn meant_len(s: &[u8], part: Span) -> usize
         let i = p.0;
         let c = s[i];
         n += escaped_len(c);
-        tokens = tokens & is_token(c);
+        tokens = tokens & is_in(classes, Set::Token, c);
         k = p.next();
     }
     len_for(n, tokens)
 }
 
 // How many octets a parameter's value takes. A token takes as many as it has, and isn't looked at again.
-pub fn value_len(text: &[u8], p: ParamParts) -> usize
+pub fn value_len(classes: &[u8; 256], text: &[u8], p: ParamParts) -> usize
     requires { ⌜ GoodParam (further Rfc5988) (now text) (toParam p) ⌝ }
     requires { ⌜ length (now text) ≤ limit ⌝ }
+    requires { ⌜ Classes (now classes) ⌝ }
     ensures { λ r. ⌜ r ≡ length (writtenValue (valueOf (now (text .entry)) (toParam p))) ⌝ }
 {
     if p.form == TOKEN {
         return p.value.len();
     }
-    meant_len(text, p.value)
+    meant_len(classes, text, p.value)
 }
 
 // Whether what the part means is a token. The first octet that isn't a token's decides.
-fn means_token(s: &[u8], part: Span) -> bool
-    requires { ⌜ InText (now s) (part .from .0) (part .to .0) ⌝ }
+fn means_token(classes: &[u8; 256], s: &[u8], part: Span) -> bool
+    requires { ⌜ InText (now s) (part .from .0) (part .to .0) × Classes (now classes) ⌝ }
     ensures { λ r. ⌜ r ≡ isTokenText (rest (now (s .entry)) (part .to .0) (part .from .0)) ⌝ }
 {
     let a = part.from;
@@ -84,7 +88,7 @@ fn means_token(s: &[u8], part: Span) -> bool
             return k.0 > a.0;
         }
         let i = p.0;
-        if !is_token(s[i]) {
+        if !is_in(classes, Set::Token, s[i]) {
             return false;
         }
         k = p.next();
@@ -93,12 +97,12 @@ fn means_token(s: &[u8], part: Span) -> bool
 }
 
 // Whether a parameter's value stands bare.
-pub fn is_bare(text: &[u8], p: ParamParts) -> bool
-    requires { ⌜ GoodParam (further Rfc5988) (now text) (toParam p) ⌝ }
+pub fn is_bare(classes: &[u8; 256], text: &[u8], p: ParamParts) -> bool
+    requires { ⌜ GoodParam (further Rfc5988) (now text) (toParam p) × Classes (now classes) ⌝ }
     ensures { λ r. ⌜ r ≡ isTokenText (valueOf (now (text .entry)) (toParam p)) ⌝ }
 {
     if p.form == TOKEN {
         return true;
     }
-    means_token(text, p.value)
+    means_token(classes, text, p.value)
 }

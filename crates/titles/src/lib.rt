@@ -14,6 +14,7 @@ ghost use Rattle.named.specs.First.{Listed};
 ghost use Rattle.units.specs.Seen.{seen};
 ghost use Rattle.decoding.specs.Measured.{octetsGiven, IsGiven};
 ghost use Rattle.copy.specs.Room.{InRoom};
+ghost use Rattle.octet_classes.specs.Classes.{Classes};
 ghost use Rattle.titles.specs.Plain.{Plain};
 use answers::LIMIT;
 use answers::Refusal;
@@ -34,6 +35,7 @@ use table_check::state_of;
 
 // Writes the n octets that are given from `from` to e, if there is room.
 fn write_given(
+    classes: &[u8; 256],
     s: &[u8],
     from: Place,
     e: Place,
@@ -41,10 +43,9 @@ fn write_given(
     n: usize,
     out: &mut [u8],
 ) -> LengthAnswer
-    requires { ⌜
-        (e .0 ≤ length (now s))
+    requires { ⌜ (e .0 ≤ length (now s))
         × IsGiven (given (seen escapes (now s) (e .0) (from .0)))
-        × (n ≡ length (octetsGiven (given (seen escapes (now s) (e .0) (from .0))))) ⌝ }
+        × (n ≡ length (octetsGiven (given (seen escapes (now s) (e .0) (from .0))))) × Classes (now classes) ⌝ }
     ensures { λ r. ⌜
         InRoom (now (out .entry)) (octetsGiven (given (seen escapes (now (s .entry)) (e .0) (from .0))))
         (lengthOut (lengthNumbers r) (now (out .exit))) ⌝ }
@@ -52,7 +53,7 @@ fn write_given(
     if n > out.len() {
         return LengthAnswer::Refused(Refusal::NoOutputRoom);
     }
-    put_given(s, from, e, escapes, out, OutPlace::start());
+    put_given(classes, s, from, e, escapes, out, OutPlace::start());
     LengthAnswer::Wrote(n)
 }
 
@@ -74,6 +75,7 @@ fn plain_title(text: &[u8], params: &[usize], l: LinkRecord, out: &mut [u8]) -> 
 
 // Writes the link's title. The older edition stands for all: what is good in any of them is good in it.
 fn title_at(
+    classes: &[u8; 256],
     text: &[u8],
     links: &[usize],
     params: &[usize],
@@ -81,7 +83,7 @@ fn title_at(
     link: LinkNumber,
     out: &mut [u8],
 ) -> LengthAnswer
-    requires { ⌜ Usable Rfc5988 (tableOf (now text) (now links) (now params) (counts .links) (counts .params)) ⌝ }
+    requires { ⌜ Usable Rfc5988 (tableOf (now text) (now links) (now params) (counts .links) (counts .params)) × Classes (now classes) ⌝ }
     ensures { λ r. ⌜ Titled (tableOf (now (text .entry)) (now (links .entry)) (now (params .entry)) (counts .links) (counts .params))
         (link .0) (now (out .entry)) (lengthOut (lengthNumbers r) (now (out .exit))) ⌝ }
 {
@@ -94,10 +96,10 @@ fn title_at(
         Named::Absent => plain_title(text, params, l, out),
         Named::Found(p) => {
             let part = p.value;
-            let judged = judge(text, part, true);
+            let judged = judge(classes, text, part, true);
             match judged {
                 Judged::Wrong => plain_title(text, params, l, out),
-                Judged::Right(from, n) => write_given(text, from, part.to, true, n, out),
+                Judged::Right(from, n) => write_given(classes, text, from, part.to, true, n, out),
             }
         }
     }
@@ -116,10 +118,11 @@ pub fn title(
     ensures { λ r. ⌜ Titles edition (tableOf (now (text .entry)) (now (links .entry)) (now (params .entry)) (counts .links) (counts .params))
         (link .0) (now (out .entry)) (lengthOut (lengthNumbers r) (now (out .exit))) ⌝ }
 {
-    let state = state_of(edition, text, links, params, counts);
+    let classes = octet_classes::table();
+    let state = state_of(&classes, edition, text, links, params, counts);
     match state {
         TableState::Refused(why) => LengthAnswer::Refused(why),
-        TableState::Usable => title_at(text, links, params, counts, link, out),
+        TableState::Usable => title_at(&classes, text, links, params, counts, link, out),
     }
 }
 
@@ -127,6 +130,7 @@ pub fn title(
 pub fn decode(value: &[u8], out: &mut [u8]) -> LengthAnswer
     ensures { λ r. ⌜ Decode (now (value .entry)) (now (out .entry)) (lengthOut (lengthNumbers r) (now (out .exit))) ⌝ }
 {
+    let classes = octet_classes::table();
     let end = value.len();
     if end > LIMIT {
         return LengthAnswer::Refused(Refusal::TooLong);
@@ -135,9 +139,9 @@ pub fn decode(value: &[u8], out: &mut [u8]) -> LengthAnswer
         from: Place(0),
         to: Place(end),
     };
-    let judged = judge(value, part, false);
+    let judged = judge(&classes, value, part, false);
     match judged {
         Judged::Wrong => LengthAnswer::Refused(Refusal::BadExtended),
-        Judged::Right(from, n) => write_given(value, from, part.to, false, n, out),
+        Judged::Right(from, n) => write_given(&classes, value, from, part.to, false, n, out),
     }
 }

@@ -6,11 +6,12 @@ ghost use lib.ListN.{length};
 ghost use Rattle.octets.specs.Sets.{isHex};
 ghost use Rattle.extended.specs.Value.{isAttribute, hexValue, tripled};
 ghost use Rattle.extended.specs.Decoded.{no-triple, behind-percent, behind-digit};
+ghost use Rattle.octet_classes.specs.Classes.{Classes};
 ghost use Rattle.units.specs.Seen.{ReadAt, Looked};
 ghost use Rattle.units.specs.Units.{IsUnit};
 use kinds::Place;
-use octets::bits::in_bits;
-use octets::sets::is_hex;
+use octet_classes::Set;
+use octet_classes::is_in;
 use values::meant_at;
 
 // An octet and the place behind it, or none.
@@ -56,10 +57,11 @@ pub fn look(s: &[u8], k: Place, e: Place, escapes: bool) -> Seen
 }
 
 // An attribute character: an octet of a token, but none of `*`, `'` and `%`.
-pub fn is_attribute(c: u8) -> bool
+pub fn is_attribute(classes: &[u8; 256], c: u8) -> bool
+    requires { ⌜ Classes (now classes) ⌝ }
     ensures { λ r. ⌜ r ≡ isAttribute c ⌝ }
 {
-    in_bits(0x03ff_685a_0000_0000, 0x57ff_ffff_c7ff_fffe, c)
+    is_in(classes, Set::Token, c) & (c != b'*') & (c != b'\'') & (c != b'%')
 }
 
 // The number of a hex digit: a letter's last four bits count from 1, and stand for 10 on.
@@ -79,14 +81,14 @@ fn tripled_octet(a: u8, b: u8) -> u8
 }
 
 // Behind a triple's `%` and its first digit a.
-fn second_digit(s: &[u8], k: Place, e: Place, escapes: bool, a: u8) -> Given
-    requires { ⌜ (e .0 ≤ length (now s)) × (isHex a ≡ true) ⌝ }
+fn second_digit(classes: &[u8; 256], s: &[u8], k: Place, e: Place, escapes: bool, a: u8) -> Given
+    requires { ⌜ (e .0 ≤ length (now s)) × (isHex a ≡ true) × Classes (now classes) ⌝ }
     ensures { λ r. ⌜ IsUnit (behind-digit a) escapes (now (s .entry)) (e .0) (k .0) r ⌝ }
 {
     match look(s, k, e, escapes) {
         Seen::End => Given::Wrong,
         Seen::Octet(b, n) => {
-            if is_hex(b) {
+            if is_in(classes, Set::Hex, b) {
                 Given::Gives(tripled_octet(a, b), n)
             } else {
                 Given::Wrong
@@ -96,15 +98,15 @@ fn second_digit(s: &[u8], k: Place, e: Place, escapes: bool, a: u8) -> Given
 }
 
 // Behind a triple's `%`.
-fn first_digit(s: &[u8], k: Place, e: Place, escapes: bool) -> Given
-    requires { ⌜ e .0 ≤ length (now s) ⌝ }
+fn first_digit(classes: &[u8; 256], s: &[u8], k: Place, e: Place, escapes: bool) -> Given
+    requires { ⌜ (e .0 ≤ length (now s)) × Classes (now classes) ⌝ }
     ensures { λ r. ⌜ IsUnit behind-percent escapes (now (s .entry)) (e .0) (k .0) r ⌝ }
 {
     match look(s, k, e, escapes) {
         Seen::End => Given::Wrong,
         Seen::Octet(a, n) => {
-            if is_hex(a) {
-                second_digit(s, n, e, escapes, a)
+            if is_in(classes, Set::Hex, a) {
+                second_digit(classes, s, n, e, escapes, a)
             } else {
                 Given::Wrong
             }
@@ -113,16 +115,16 @@ fn first_digit(s: &[u8], k: Place, e: Place, escapes: bool) -> Given
 }
 
 // What stands at place k.
-pub fn unit(s: &[u8], k: Place, e: Place, escapes: bool) -> Given
-    requires { ⌜ e .0 ≤ length (now s) ⌝ }
+pub fn unit(classes: &[u8; 256], s: &[u8], k: Place, e: Place, escapes: bool) -> Given
+    requires { ⌜ (e .0 ≤ length (now s)) × Classes (now classes) ⌝ }
     ensures { λ r. ⌜ IsUnit no-triple escapes (now (s .entry)) (e .0) (k .0) r ⌝ }
 {
     match look(s, k, e, escapes) {
         Seen::End => Given::Done,
         Seen::Octet(c, n) => {
             if c == b'%' {
-                first_digit(s, n, e, escapes)
-            } else if is_attribute(c) {
+                first_digit(classes, s, n, e, escapes)
+            } else if is_attribute(classes, c) {
                 Given::Gives(c, n)
             } else {
                 Given::Wrong

@@ -5,6 +5,7 @@ ghost use Rattle.answers.specs.Length.{lengthNumbers, lengthOut};
 ghost use Rattle.outcomes.specs.Usable.{Usable};
 ghost use Rattle.outcomes.specs.Write.{Wrote, Write};
 ghost use Rattle.tables.specs.Table.{tableOf};
+ghost use Rattle.octet_classes.specs.Classes.{Classes};
 use answers::LIMIT;
 use answers::Refusal;
 use answers::length_answer::LengthAnswer;
@@ -18,27 +19,28 @@ mod related;
 
 // Writes a table that may be used. The older edition stands for all: what is good in any of them is good in it.
 fn write_table(
+    classes: &[u8; 256],
     text: &[u8],
     links: &[usize],
     params: &[usize],
     counts: Counts,
     out: &mut [u8],
 ) -> LengthAnswer
-    requires { ⌜ Usable Rfc5988 (tableOf (now text) (now links) (now params) (counts .links) (counts .params)) ⌝ }
+    requires { ⌜ Usable Rfc5988 (tableOf (now text) (now links) (now params) (counts .links) (counts .params)) × Classes (now classes) ⌝ }
     ensures { λ r. ⌜ Wrote (tableOf (now (text .entry)) (now (links .entry)) (now (params .entry)) (counts .links) (counts .params))
         (now (out .entry)) (lengthOut (lengthNumbers r) (now (out .exit))) ⌝ }
 {
     if !related::all_related(text, links, params, counts) {
         return LengthAnswer::Refused(Refusal::NoRelation);
     }
-    let n = form_len(text, links, params, counts);
+    let n = form_len(classes, text, links, params, counts);
     if n > LIMIT {
         return LengthAnswer::Refused(Refusal::TooLong);
     }
     if n > out.len() {
         return LengthAnswer::Refused(Refusal::NoOutputRoom);
     }
-    put_links(text, links, params, counts, out);
+    put_links(classes, text, links, params, counts, out);
     LengthAnswer::Wrote(n)
 }
 
@@ -54,9 +56,10 @@ pub fn write(
     ensures { λ r. ⌜ Write edition (tableOf (now (text .entry)) (now (links .entry)) (now (params .entry)) (counts .links) (counts .params))
         (now (out .entry)) (lengthOut (lengthNumbers r) (now (out .exit))) ⌝ }
 {
-    let state = state_of(edition, text, links, params, counts);
+    let classes = octet_classes::table();
+    let state = state_of(&classes, edition, text, links, params, counts);
     match state {
         TableState::Refused(why) => LengthAnswer::Refused(why),
-        TableState::Usable => write_table(text, links, params, counts, out),
+        TableState::Usable => write_table(&classes, text, links, params, counts, out),
     }
 }

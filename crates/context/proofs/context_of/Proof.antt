@@ -5,6 +5,9 @@ use Rattle.context.proofs.Anchored.{is-there, not-there}
 use Rattle.context.proofs.context_of.Statement.{statement}
 use Rattle.context.proofs.context_of.Tie as tie
 
+table-requires : tie.Need-table-requires
+table-requires c κs = search needs
+
 state-of-requires : tie.Need-state-of-requires
 state-of-requires c κs = search needs
 
@@ -39,6 +42,7 @@ pub context-of-spec : {M : Type 1} → statement M
 context-of-spec =
     tie.close
     (tie.spec
+    table-requires
     state-of-requires
     enum-known-state
     enum-told

@@ -4,6 +4,9 @@ use Rattle.table_check.proofs.EntryOutcomes.{state-refused, state-usable, in-ol
 use Rattle.copy.proofs.value.Statement.{statement}
 use Rattle.copy.proofs.value.Tie as tie
 
+table-requires : tie.Need-table-requires
+table-requires c κs = search needs
+
 state-of-requires : tie.Need-state-of-requires
 state-of-requires c κs = search needs
 
@@ -32,6 +35,7 @@ pub value-spec : {M : Type 1} → statement M
 value-spec =
     tie.close
     (tie.spec
+    table-requires
     state-of-requires
     enum-known-state
     enum-told

@@ -9,6 +9,9 @@ use borrow.Author.Needs.{needs}
 use Rattle.feeding.proofs.take.Statement.{statement}
 use Rattle.feeding.proofs.take.Tie as tie
 
+table-requires : tie.Need-table-requires
+table-requires c κs = search needs
+
 add-total : tie.Need-add-total
 add-total c = search needs
 
@@ -24,7 +27,7 @@ enum-known-at c = search needs
 add-place : tie.Need-add-place
 add-place c =
     let b = c .before .before .before .before in
-    let a = b .before .before .before .before in
+    let a = b .before .before .before .before .before .before in
     omega (arith, scan-stuck (b .scan-part .ensures) (c .before .before .at .given .1) .inside, a .pre .short)
 
 moved-requires : tie.Need-moved-requires
@@ -45,7 +48,7 @@ whole-requires c κs = search needs
 put-part-requires : tie.Need-put-part-requires
 put-part-requires c κs =
     let w = c .before .whole .ensures in
-    let a = c .before .before .before .before .before .before .before .before .before in (
+    let a = c .before .before .before .before .before .before .before .before .before .before .before in (
       record { ordered = omega (arith, w .0); inside = omega (arith, w .1) },
       omega (arith, ap length (all-of (a .args .part .now) (w .0) (w .1)), a .pre .short, a .pre .large),
     )
@@ -53,14 +56,14 @@ put-part-requires c κs =
 returns : tie.Need-returns
 returns c =
     let b = c .before .before .before .before .before in
-    let a = b .before .before .before .before in
+    let a = b .before .before .before .before .before .before in
     subst (FeedsIn _ _ _ _ _) (sym (c .moved .ensures))
     (gets-stuck _ (a .pre) (scan-stuck (rw (b .before .spot-of .ensures) at (b .scan-part .ensures)) (c .before .before .before .at .given .1)))
 
 returns-2 : tie.Need-returns-2
 returns-2 c =
     let b = c .before .before .before .before in
-    let a = b .before .before .before .before in
+    let a = b .before .before .before .before .before .before in
     subst (FeedsIn _ _ _ _ _) (sym (c .moved2 .ensures))
     (gets-refused _ (a .pre) (scan-unfit (rw (b .before .spot-of .ensures) at (b .scan-part .ensures)) (c .before .before .start .given .1)))
 
@@ -71,7 +74,7 @@ returns-3 : tie.Need-returns-3
 returns-3 c =
     let w = c .before .before .before .before in
     let b = w .before .before .before .before in
-    let a = b .before .before .before .before in
+    let a = b .before .before .before .before .before .before in
     let new =
     c .before .before .put-part .ensures .buffer
     ∙ ap (sets (a .args .buffer .now) (a .args .state .total))
@@ -83,6 +86,7 @@ pub take-spec : {M : Type 1} → statement M
 take-spec =
     tie.close
     (tie.spec
+    table-requires
     add-total
     spot-of-requires
     scan-part-requires

@@ -20,7 +20,7 @@ put-part-requires c κs =
     let target = slice (l .target .from .0) (l .target .to .0) (start .args .text .now) in
     let left = paramsForm (start .args .text .now) (paramsFrom (start .args .params .now) (l .first .0) (l .count)) in
     let form = linkForm (start .args .text .now) (toLink (start .args .params .now) l) in
-    let w = begin (start .args .out .now) (start .args .at .0) form (start .pre .1 .1) in
+    let w = begin (start .args .out .now) (start .args .at .0) form (start .pre .1 .1 .0) in
     let w1 = several w (c .before .before .before .put .ensures) in
     (start .pre .0, room target (62 ∷ left) w1)
 
@@ -31,7 +31,7 @@ put-requires-2 c κs =
     let l = start .args .l in
     let target = slice (l .target .from .0) (l .target .to .0) (start .args .text .now) in
     let form = linkForm (start .args .text .now) (toLink (start .args .params .now) l) in
-    let w = begin (start .args .out .now) (start .args .at .0) form (start .pre .1 .1) in
+    let w = begin (start .args .out .now) (start .args .at .0) form (start .pre .1 .1 .0) in
     let w1 = several w (put′ .ensures) in
     octet-room (several {bs = target} w1 (c .before .before .before .put-part .ensures))
 
@@ -39,8 +39,7 @@ plus-requires : tie.Need-plus-requires
 plus-requires c κs = search needs
 
 put-params-requires : tie.Need-put-params-requires
-put-params-requires c κs =
-    let earlier = c .before .before .before .before .before .before .before .before .before .before in
+put-params-requires c κs = let earlier = c .before .before .before .before .before .before .before .before .before .before in
     let start = earlier .before .before .before .before .before .before .before .before in
     let put′ = c .before .before .before .before .before .before .before .before .before .before .before .before .before .put in
     let put-part′ = c .before .before .before .before .before .before .before .before .before .put-part in
@@ -48,12 +47,12 @@ put-params-requires c κs =
     let l = start .args .l in
     let target = slice (l .target .from .0) (l .target .to .0) (start .args .text .now) in
     let form = linkForm (start .args .text .now) (toLink (start .args .params .now) l) in
-    let w = begin (start .args .out .now) (start .args .at .0) form (start .pre .1 .1) in
+    let w = begin (start .args .out .now) (start .args .at .0) form (start .pre .1 .1 .0) in
     let w1 = several w (put′ .ensures) in
     let w2 = several {bs = target} w1 (put-part′ .ensures) in
     let w3 = several w2 (c .before .before .before .before .before .put2 .ensures) in
     let w4 = onto (whole-run (start .args .text .now) (start .args .params .now) (l .first .0) (l .count)) w3 in
-    (rw (plus′ .ensures) (start .pre .1 .0), rw (plus′ .ensures) (last-room w4))
+    (rw (plus′ .ensures) (start .pre .1 .0), (rw (plus′ .ensures) (last-room w4), search needs))
 
 same-length : tie.Need-same-length
 same-length c = search needs
@@ -68,7 +67,7 @@ returns c =
     let l = start .args .l in
     let target = slice (l .target .from .0) (l .target .to .0) (start .args .text .now) in
     let form = linkForm (start .args .text .now) (toLink (start .args .params .now) l) in
-    let w = begin (start .args .out .now) (start .args .at .0) form (start .pre .1 .1) in
+    let w = begin (start .args .out .now) (start .args .at .0) form (start .pre .1 .1 .0) in
     let w1 = several w (put′ .ensures) in
     let w2 = several {bs = target} w1 (put-part′ .ensures) in
     let w3 = several w2 (put2′ .ensures) in

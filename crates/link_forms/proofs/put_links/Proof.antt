@@ -18,12 +18,12 @@ use Rattle.link_forms.proofs.put_links.Statement.{statement}
 use Rattle.link_forms.proofs.put_links.Tie as tie
 
 abbrev Inv-loop : tie.InvT-loop
-Inv-loop text links params counts out₀ at₀ i₀ out at i =
+Inv-loop classes text links params counts out₀ at₀ i₀ out at i =
     PutUpTo (linksLeft text links params (counts .links)) (counts .links) out₀ 0
     (writtenForm (tableOf text links params (counts .links) (counts .params))) out (at .0) (i .0)
 
 abbrev μ-loop : tie.MeasureT-loop
-μ-loop text links params counts out₀ at₀ i₀ out at i = counts .links - i .0
+μ-loop classes text links params counts out₀ at₀ i₀ out at i = counts .links - i .0
 
 start-requires : tie.Need-start-requires Inv-loop μ-loop
 start-requires c κs = search needs
@@ -39,7 +39,7 @@ loop-holds c =
     rw (c .first .ensures, c .before .start .ensures)
     (record {
       inside = omega arith;
-      put = onto (sym (whole-form t)) (begin (start .args .out .now) 0 (writtenForm t) (omega (arith, start .pre .1)));
+      put = onto (sym (whole-form t)) (begin (start .args .out .now) 0 (writtenForm t) (omega (arith, start .pre .1 .0)));
     })
 
 link-at-requires : tie.Need-link-at-requires Inv-loop μ-loop
@@ -61,8 +61,7 @@ put-parting-requires c κs =
     room (parting (eqb (loop′ .i .0) 0)) (form ++ linksLeft text links params n (suc (loop′ .i .0))) w
 
 put-link-requires : tie.Need-put-link-requires Inv-loop μ-loop
-put-link-requires c κs =
-    let earlier = c .before .before .before .before .before .before .before .before .before .before in
+put-link-requires c κs = let earlier = c .before .before .before .before .before .before .before .before .before .before in
     let start = earlier .before .before .before .before .before .before .before in
     let if1′ = c .before .before .before .before .before .before .before .if1 in
     let link-at′ = c .before .before .before .before .before .before .link-at in
@@ -76,7 +75,7 @@ put-link-requires c κs =
     let left = linksLeft text links params n (suc (loop′ .i .0)) in
     let w1 = several {left = form ++ left} w (c .before .before .before .put-parting .ensures) in (
       target-span (start .pre .0 .good) (if1′ .taken) (link-at′ .ensures),
-      (good-run (start .pre .0 .good) (if1′ .taken) (link-at′ .ensures), room form left w1),
+      (good-run (start .pre .0 .good) (if1′ .taken) (link-at′ .ensures), (room form left w1, search needs)),
     )
 
 next-requires : tie.Need-next-requires Inv-loop μ-loop

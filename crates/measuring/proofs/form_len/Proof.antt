@@ -12,11 +12,11 @@ use Rattle.measuring.proofs.form_len.Statement.{statement}
 use Rattle.measuring.proofs.form_len.Tie as tie
 
 abbrev Inv-loop : tie.InvT-loop
-Inv-loop text links params counts n₀ i₀ n i =
+Inv-loop classes text links params counts n₀ i₀ n i =
     LinksMeasured (tableOf text links params (counts .links) (counts .params)) n (i .0)
 
 abbrev μ-loop : tie.MeasureT-loop
-μ-loop text links params counts n₀ i₀ n i = counts .links - i .0
+μ-loop classes text links params counts n₀ i₀ n i = counts .links - i .0
 
 first-requires : tie.Need-first-requires Inv-loop μ-loop
 first-requires c κs = search needs
@@ -27,7 +27,7 @@ loop-holds c = rw (c .first .ensures) (form-begin _)
 link-at-requires : tie.Need-link-at-requires Inv-loop μ-loop
 link-at-requires c κs =
     let start = c .before .before .before .before .before .before .before .before .before in
-    link-slots (start .pre .good) (c .before .if1 .taken)
+    link-slots (start .pre .0 .good) (c .before .if1 .taken)
 
 parting-len-requires : tie.Need-parting-len-requires Inv-loop μ-loop
 parting-len-requires c κs = search needs
@@ -36,7 +36,7 @@ len-requires : tie.Need-len-requires Inv-loop μ-loop
 len-requires c κs =
     let start = c .before .before .before .before .before .before .before .before .before .before .before .before in
     let if1′ = c .before .before .before .before .if1 in
-    target-span (start .pre .good) (if1′ .taken) (c .before .before .link-at .ensures) .ordered
+    target-span (start .pre .0 .good) (if1′ .taken) (c .before .before .link-at .ensures) .ordered
 
 add-target : tie.Need-add-target Inv-loop μ-loop
 add-target c =
@@ -46,7 +46,7 @@ add-target c =
     let link-at′ = c .before .before .before .link-at in
     omega (
       arith,
-      link-added (loop′ .inv) (start .pre) (if1′ .taken) (link-at′ .ensures) (c .before .parting-len .ensures) (c .len .ensures),
+      link-added (loop′ .inv) (start .pre .0) (if1′ .taken) (link-at′ .ensures) (c .before .parting-len .ensures) (c .len .ensures),
     )
 
 plus-requires : tie.Need-plus-requires Inv-loop μ-loop
@@ -57,7 +57,7 @@ plus-requires c κs =
     let link-at′ = c .before .before .before .before .link-at in
     omega (
       arith,
-      params-slots (start .pre .good) (if1′ .taken),
+      params-slots (start .pre .0 .good) (if1′ .taken),
       link-at′ .ensures .first,
       link-at′ .ensures .count,
       start .good .1 .1 .0 .0,
@@ -73,7 +73,7 @@ add-params-len c =
     let parting-len′ = c .before .before .before .parting-len in
     let if2′ = c .before .before .before .before .before .before .if2 in
     let few =
-    link-added (loop′ .inv) (start .pre) (if1′ .taken) (link-at′ .ensures) (parting-len′ .ensures) (c .before .before .len .ensures)
+    link-added (loop′ .inv) (start .pre .0) (if1′ .taken) (link-at′ .ensures) (parting-len′ .ensures) (c .before .before .len .ensures)
     in
     omega (arith, few, leb-true (loop′ .n) limit (if2′ .taken))
 
@@ -87,24 +87,23 @@ add-params-len-2 c =
     let parting-len′ = c .before .before .before .parting-len in
     let if2′ = c .before .before .before .before .before .before .if2 in
     let few =
-    link-added (loop′ .inv) (start .pre) (if1′ .taken) (link-at′ .ensures) (parting-len′ .ensures) (c .before .before .len .ensures)
+    link-added (loop′ .inv) (start .pre .0) (if1′ .taken) (link-at′ .ensures) (parting-len′ .ensures) (c .before .before .len .ensures)
     in
     omega (arith, few, leb-true (loop′ .n) limit (if2′ .taken))
 
 params-len-requires : tie.Need-params-len-requires Inv-loop μ-loop
-params-len-requires c κs =
-    let earlier = c .before .before .before .before .before .before .before .before .before .before in
+params-len-requires c κs = let earlier = c .before .before .before .before .before .before .before .before .before .before in
     let start = earlier .before .before .before .before .before in
     let if1′ = c .before .before .before .before .before .before .before .if1 in
     let link-at′ = c .before .before .before .before .before .link-at in
-    (rw (c .plus .ensures) (good-run (start .pre .good) (if1′ .taken) (link-at′ .ensures)), start .pre .short)
+    (rw (c .plus .ensures) (good-run (start .pre .0 .good) (if1′ .taken) (link-at′ .ensures)), (start .pre .0 .short, search needs))
 
 next-requires : tie.Need-next-requires Inv-loop μ-loop
 next-requires c κs =
     let earlier = c .before .before .before .before .before .before .before .before .before .before in
     let start = earlier .before .before .before .before .before .before in
     let if1′ = c .before .before .before .before .before .before .before .before .if1 in
-    omega (arith, link-slots (start .pre .good) (if1′ .taken), start .good .1 .0 .0)
+    omega (arith, link-slots (start .pre .0 .good) (if1′ .taken), start .good .1 .0 .0)
 
 loop-less : tie.Need-loop-less Inv-loop μ-loop
 loop-less c =
@@ -124,7 +123,7 @@ loop-again c =
     let within = leb-true (loop′ .n) limit (if2′ .taken) in
     let measured = rw (c .before .before .plus .ensures) at (c .before .params-len .ensures) in
     rw (c .next .ensures)
-    (form-more (loop′ .inv) (start .pre) (if1′ .taken) (link-at′ .ensures) (parting-len′ .ensures) (len′ .ensures)
+    (form-more (loop′ .inv) (start .pre .0) (if1′ .taken) (link-at′ .ensures) (parting-len′ .ensures) (len′ .ensures)
     within measured)
 
 returns : tie.Need-returns Inv-loop μ-loop

@@ -4,6 +4,7 @@ use native.Mathlib.Omega.{arith}
 use mathlib.Core.Path.{refl}
 use lib.ListN.{length}
 use borrow.Author.Tests.{leb-true, leb-false}
+use borrow.Author.Needs.{needs}
 use Rattle.outcomes.specs.Number.{limit}
 use Rattle.shape.specs.Forms.{paramsLeft}
 use Rattle.measuring.proofs.MeasuredUpTo.{ParamsMeasured, all-measured, over-limit, good-here, added, measure-more}
@@ -11,16 +12,16 @@ use Rattle.measuring.proofs.params_len.Statement.{statement}
 use Rattle.measuring.proofs.params_len.Tie as tie
 
 abbrev Inv-loop : tie.InvT-loop
-Inv-loop text params end before n₀ p₀ n p =
+Inv-loop classes text params end before n₀ p₀ n p =
     ParamsMeasured text params (before + length (paramsLeft text params (end .0) (p₀ .0))) (end .0) n (p .0)
 
 abbrev μ-loop : tie.MeasureT-loop
-μ-loop text params end before n₀ p₀ n p = end .0 - p .0
+μ-loop classes text params end before n₀ p₀ n p = end .0 - p .0
 
 loop-holds : tie.Need-loop-holds Inv-loop μ-loop
 loop-holds c =
     let start = c .before .before in
-    record { run = start .pre .0; short = start .pre .1; whole = refl }
+    record { run = start .pre .0; short = start .pre .1 .0; whole = refl }
 
 parts-at-requires : tie.Need-parts-at-requires Inv-loop μ-loop
 parts-at-requires c κs = omega (arith, c .before .before .before .before .loop .inv .run .room, c .before .if1 .taken)
@@ -31,10 +32,9 @@ len-requires c κs =
     good-here (loop′ .inv) (c .before .before .if1 .taken) (c .parts-at .ensures) .name-span .ordered
 
 value-len-requires : tie.Need-value-len-requires Inv-loop μ-loop
-value-len-requires c κs =
-    let loop′ = c .before .before .before .before .before .before .loop in
+value-len-requires c κs = let loop′ = c .before .before .before .before .before .before .loop in
     let if1′ = c .before .before .before .if1 in
-    (good-here (loop′ .inv) (if1′ .taken) (c .before .parts-at .ensures), loop′ .inv .short)
+    (good-here (loop′ .inv) (if1′ .taken) (c .before .parts-at .ensures), (loop′ .inv .short, search needs))
 
 add-n : tie.Need-add-n Inv-loop μ-loop
 add-n c =

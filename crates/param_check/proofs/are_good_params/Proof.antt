@@ -9,10 +9,10 @@ use Rattle.param_check.proofs.are_good_params.Statement.{statement}
 use Rattle.param_check.proofs.are_good_params.Tie as tie
 
 abbrev Inv-loop : tie.InvT-loop
-Inv-loop edition s slots first count seen₀ k₀ seen k = Checked (further edition) s slots (first .0) count seen k
+Inv-loop classes edition s slots first count seen₀ k₀ seen k = Checked (further edition) s slots (first .0) count seen k
 
 abbrev μ-loop : tie.MeasureT-loop
-μ-loop edition s slots first count seen₀ k₀ seen k = count - k
+μ-loop classes edition s slots first count seen₀ k₀ seen k = count - k
 
 none-requires : tie.Need-none-requires Inv-loop μ-loop
 none-requires c κs = search needs

@@ -16,7 +16,7 @@ returns-2 : tie.Need-returns-2
 returns-2 c =
     let start = c .before .before .before .before in
     let code = sym (c .before .if1 .left) ∙ c .before .before .code .ensures in
-    is-so (record { token = known-token (start .args .s .now) (start .pre) code (c .if2 .taken); code = code })
+    is-so (record { token = known-token (start .args .s .now) (start .pre .0) code (c .if2 .taken); code = code })
 
 is-token-part-requires : tie.Need-is-token-part-requires
 is-token-part-requires c κs = search needs

@@ -13,10 +13,10 @@ is-span-requires-2 : tie.Need-is-span-requires-2
 is-span-requires-2 c κs = search needs
 
 is-good-value-requires : tie.Need-is-good-value-requires
-is-good-value-requires c κs = c .before .is-span2 .ensures .holds (c .if2 .taken)
+is-good-value-requires c κs = (c .before .is-span2 .ensures .holds (c .if2 .taken), search needs)
 
 is-good-name-requires : tie.Need-is-good-name-requires
-is-good-name-requires c κs = c .before .before .before .before .before .is-span .ensures .holds (c .before .before .before .before .if1 .taken)
+is-good-name-requires c κs = (c .before .before .before .before .before .is-span .ensures .holds (c .before .before .before .before .if1 .taken), search needs)
 
 returns : tie.Need-returns
 unfolding nameOf

@@ -16,7 +16,7 @@ put-two-requires c κs =
     let p = toParam (start .args .p) in
     let name = nameOf (start .args .text .now) p in
     let value = writtenValue (valueOf (start .args .text .now) p) in
-    let w = begin (start .args .out .now) (start .args .at .0) (paramForm (start .args .text .now) p) (start .pre .1) in
+    let w = begin (start .args .out .now) (start .args .at .0) (paramForm (start .args .text .now) p) (start .pre .1 .0) in
     room (59 ∷ 32 ∷ []) (name ++ 61 ∷ value) w
 
 put-folded-requires : tie.Need-put-folded-requires
@@ -26,7 +26,7 @@ put-folded-requires c κs =
     let p = toParam (start .args .p) in
     let name = nameOf (start .args .text .now) p in
     let value = writtenValue (valueOf (start .args .text .now) p) in
-    let w = begin (start .args .out .now) (start .args .at .0) (paramForm (start .args .text .now) p) (start .pre .1) in
+    let w = begin (start .args .out .now) (start .args .at .0) (paramForm (start .args .text .now) p) (start .pre .1 .0) in
     let w1 = several w (c .before .before .before .put-two .ensures) in
     (start .pre .0 .name-span, room name (61 ∷ value) w1)
 
@@ -37,23 +37,22 @@ put-requires c κs =
     let put-two′ = c .before .before .before .before .before .before .before .put-two in
     let p = toParam (start .args .p) in
     let name = nameOf (start .args .text .now) p in
-    let w = begin (start .args .out .now) (start .args .at .0) (paramForm (start .args .text .now) p) (start .pre .1) in
+    let w = begin (start .args .out .now) (start .args .at .0) (paramForm (start .args .text .now) p) (start .pre .1 .0) in
     let w1 = several w (put-two′ .ensures) in
     octet-room (several {bs = name} w1 (c .before .before .before .put-folded .ensures))
 
 put-value-requires : tie.Need-put-value-requires
 unfolding nameOf
-put-value-requires c κs =
-    let earlier = c .before .before .before .before .before .before .before .before .before .before in
+put-value-requires c κs = let earlier = c .before .before .before .before .before .before .before .before .before .before in
     let start = earlier .before .before .before .before .before in
     let put-two′ = c .before .before .before .before .before .before .before .before .before .before .before .put-two in
     let put-folded′ = c .before .before .before .before .before .before .before .put-folded in
     let p = toParam (start .args .p) in
     let name = nameOf (start .args .text .now) p in
-    let w = begin (start .args .out .now) (start .args .at .0) (paramForm (start .args .text .now) p) (start .pre .1) in
+    let w = begin (start .args .out .now) (start .args .at .0) (paramForm (start .args .text .now) p) (start .pre .1 .0) in
     let w1 = several w (put-two′ .ensures) in
     let w2 = several {bs = name} w1 (put-folded′ .ensures) in
-    (start .pre .0, last-room (several w2 (c .before .before .before .put .ensures)))
+    (start .pre .0, (last-room (several w2 (c .before .before .before .put .ensures)), search needs))
 
 same-length : tie.Need-same-length
 same-length c = search needs
@@ -68,7 +67,7 @@ returns c =
     let put′ = c .before .before .before .before .before .before .put in
     let p = toParam (start .args .p) in
     let name = nameOf (start .args .text .now) p in
-    let w = begin (start .args .out .now) (start .args .at .0) (paramForm (start .args .text .now) p) (start .pre .1) in
+    let w = begin (start .args .out .now) (start .args .at .0) (paramForm (start .args .text .now) p) (start .pre .1 .0) in
     let w1 = several w (put-two′ .ensures) in
     let w2 = several {bs = name} w1 (put-folded′ .ensures) in
     last (several w2 (put′ .ensures)) (c .before .before .put-value .ensures)

@@ -1,6 +1,7 @@
 -- What is left of the parameters is put one by one.
 use Prim.Native.Nat.{_-_, _≤_}
 use native.Mathlib.Omega.{arith}
+use borrow.Author.Needs.{needs}
 use Rattle.records.specs.Slots.{toParam}
 use Rattle.shape.specs.Forms.{paramForm, paramsLeft}
 use Rattle.shape.proofs.LeftToWrite.{params-next, params-end}
@@ -10,12 +11,12 @@ use Rattle.param_forms.proofs.put_params.Statement.{statement}
 use Rattle.param_forms.proofs.put_params.Tie as tie
 
 abbrev Inv-loop : tie.InvT-loop
-Inv-loop text params end out₀ to₀ p₀ out to p =
+Inv-loop classes text params end out₀ to₀ p₀ out to p =
     (p₀ .0 ≤ p .0)
     × PutUpTo (paramsLeft text params (end .0)) (end .0) out₀ (to₀ .0) (paramsLeft text params (end .0) (p₀ .0)) out (to .0) (p .0)
 
 abbrev μ-loop : tie.MeasureT-loop
-μ-loop text params end out₀ to₀ p₀ out to p = end .0 - p .0
+μ-loop classes text params end out₀ to₀ p₀ out to p = end .0 - p .0
 
 loop-holds : tie.Need-loop-holds Inv-loop μ-loop
 loop-holds c =
@@ -23,7 +24,7 @@ loop-holds c =
     let left = paramsLeft (start .args .text .now) (start .args .params .now) (start .args .end .0) in (
       omega arith,
       begun left (start .args .end .0) (start .args .out .now) (start .args .at .0) (start .args .first .0)
-          (start .pre .0 .ordered) (start .pre .1),
+          (start .pre .0 .ordered) (start .pre .1 .0),
     )
 
 parts-at-requires : tie.Need-parts-at-requires Inv-loop μ-loop
@@ -32,15 +33,14 @@ parts-at-requires c κs =
     in-room (start .pre .0) (c .before .before .before .loop .inv .0) (c .if1 .taken)
 
 put-param-requires : tie.Need-put-param-requires Inv-loop μ-loop
-put-param-requires c κs =
-    let start = c .before .before .before .before .before .before .before .before .before in
+put-param-requires c κs = let start = c .before .before .before .before .before .before .before .before .before in
     let parts-at′ = c .before .parts-at in
     let if1′ = c .before .before .if1 in
     let loop′ = c .before .before .before .before .before .loop in
     let form = paramForm (start .args .text .now) (toParam (parts-at′ .result)) in
     let next-one = params-next (start .args .text .now) (start .args .params .now) (if1′ .taken) (parts-at′ .ensures) in (
       good-next (start .pre .0) (loop′ .inv .0) (if1′ .taken) (parts-at′ .ensures),
-      slots (loop′ .inv .1) form (loop′ .p .0) next-one,
+      (slots (loop′ .inv .1) form (loop′ .p .0) next-one, search needs),
     )
 
 next-requires : tie.Need-next-requires Inv-loop μ-loop

@@ -6,13 +6,13 @@ use Rattle.param_forms.proofs.put_value.Statement.{statement}
 use Rattle.param_forms.proofs.put_value.Tie as tie
 
 is-bare-requires : tie.Need-is-bare-requires
-is-bare-requires c κs = c .before .before .pre .0
+is-bare-requires c κs = (c .before .before .pre .0, search needs)
 
 copy-meaning-requires : tie.Need-copy-meaning-requires
 copy-meaning-requires c κs =
     let start = c .before .before .before .before .before in
     let form = bare-form (start .pre .0) (sym (c .before .before .is-bare .ensures) ∙ c .before .if1 .taken) in
-    (start .pre .0 .value-span, rw form at (start .pre .1))
+    (start .pre .0 .value-span, rw form at (start .pre .1 .0))
 
 same-length : tie.Need-same-length
 same-length c = search needs
@@ -29,7 +29,7 @@ put-in-quotes-requires : tie.Need-put-in-quotes-requires
 put-in-quotes-requires c κs =
     let start = c .before .before .before .before .before in
     let form = quoted-form (start .pre .0) (sym (c .before .before .is-bare .ensures) ∙ c .before .if1 .left) in
-    (start .pre .0 .value-span, rw form at (start .pre .1))
+    (start .pre .0 .value-span, rw form at (start .pre .1 .0))
 
 same-length-2 : tie.Need-same-length-2
 same-length-2 c = search needs

@@ -12,10 +12,10 @@ use Rattle.part_scan.proofs.scan_part.Statement.{statement}
 use Rattle.part_scan.proofs.scan_part.Tie as tie
 
 abbrev Inv-loop : tie.InvT-loop
-Inv-loop edition part base spot₀ c₀ spot c = SoFar (further edition) part base spot₀ spot (c .at .0)
+Inv-loop classes edition part base spot₀ c₀ spot c = SoFar (further edition) part base spot₀ spot (c .at .0)
 
 abbrev μ-loop : tie.MeasureT-loop
-μ-loop edition part base spot₀ c₀ spot c = length part - c .at .0
+μ-loop classes edition part base spot₀ c₀ spot c = length part - c .at .0
 
 normal-requires : tie.Need-normal-requires Inv-loop μ-loop
 normal-requires c κs = search needs
@@ -31,7 +31,7 @@ loop-holds c =
     (none-yet _ _ _ (subst Normal (sym (n .ensures)) (normal-is-normal (a .from))))
 
 go-on-requires : tie.Need-go-on-requires Inv-loop μ-loop
-go-on-requires c κs = (c .loop .inv .inside, c .before .before .before .before .pre, c .loop .inv .is-normal)
+go-on-requires c κs = (c .loop .inv .inside, c .before .before .before .before .pre .0, c .loop .inv .is-normal, search needs)
 
 enum-known-last : tie.Need-enum-known-last Inv-loop μ-loop
 enum-known-last c = search needs

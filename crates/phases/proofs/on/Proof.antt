@@ -26,14 +26,14 @@ first-of-requires c κs = search needs
 first-of-requires-2 : tie.Need-first-of-requires-2
 first-of-requires-2 c κs = search needs
 
-is-hex-requires : tie.Need-is-hex-requires
-is-hex-requires c κs = search needs
+is-in-requires : tie.Need-is-in-requires
+is-in-requires c κs = search needs
 
 only-requires : tie.Need-only-requires
 only-requires c κs = search needs
 
-is-hex-requires-2 : tie.Need-is-hex-requires-2
-is-hex-requires-2 c κs = search needs
+is-in-requires-2 : tie.Need-is-in-requires-2
+is-in-requires-2 c κs = search needs
 
 only-requires-2 : tie.Need-only-requires-2
 only-requires-2 c κs = search needs
@@ -68,8 +68,8 @@ or-further-requires c κs = search needs
 first-of-requires-3 : tie.Need-first-of-requires-3
 first-of-requires-3 c κs = search needs
 
-is-in-requires : tie.Need-is-in-requires
-is-in-requires c κs = search needs
+is-in-requires-3 : tie.Need-is-in-requires-3
+is-in-requires-3 c κs = search needs
 
 only-requires-3 : tie.Need-only-requires-3
 only-requires-3 c κs = search needs
@@ -119,9 +119,9 @@ on-spec =
     (tie.spec
     first-of-requires
     first-of-requires-2
-    is-hex-requires
+    is-in-requires
     only-requires
-    is-hex-requires-2
+    is-in-requires-2
     only-requires-2
     link-end-requires
     token-or-blank-requires
@@ -133,7 +133,7 @@ on-spec =
     or-token-requires-2
     or-further-requires
     first-of-requires-3
-    is-in-requires
+    is-in-requires-3
     only-requires-3
     returns
     returns-2

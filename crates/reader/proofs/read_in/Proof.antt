@@ -6,6 +6,9 @@ use borrow.Author.Needs.{needs}
 use Rattle.reader.proofs.read_in.Statement.{statement}
 use Rattle.reader.proofs.read_in.Tie as tie
 
+table-requires : tie.Need-table-requires
+table-requires c κs = search needs
+
 returns : tie.Need-returns
 returns c = too-long (omega (arith, (c .if1 .taken)))
 
@@ -34,7 +37,7 @@ returns-2 : tie.Need-returns-2
 returns-2 c =
     let b1 = c .before .before .before .before in
     let b2 = b1 .before .before .before in
-    let b3 = b2 .before .before .before in
+    let b3 = b2 .before .before .before .before in
     few-link-slots _ _ _ (b3 .if1 .left) (b2 .before .before .scan .ensures) (b2 .counts .given .1) (b1 .link-room .ensures)
     (c .if2 .taken)
 
@@ -48,23 +51,25 @@ returns-3 : tie.Need-returns-3
 returns-3 c =
     let b1 = c .before .before .before .before in
     let b2 = b1 .before .before .before .before .before in
-    let b3 = b2 .before .before .before in
+    let b3 = b2 .before .before .before .before in
     few-param-slots _ _ _ (b3 .if1 .left) (b2 .before .before .scan .ensures) (b2 .counts .given .1)
     (b1 .before .before .link-room .ensures) (b1 .param-room .ensures) (c .before .before .if2 .left) (c .if3 .taken)
 
 fill-requires : tie.Need-fill-requires
 fill-requires c κs =
-    let b1 = c .before .before .before .before in
+    let b1 = c .before .before .before .before .before in
     let b2 = b1 .before .before .before .before in
     let b3 = b2 .before .before .before in
-    let b4 = b3 .before .before .before in
-    fits (b4 .before .before .before .before .args .edition) _ _ (b4 .if1 .left) (b3 .before .before .scan .ensures) (b3 .counts .given .1) (b2 .link-room .ensures)
-    (b1 .before .before .param-room .ensures) (b1 .if2 .left) (c .before .before .if3 .left)
+    let b4 = b3 .before .before .before .before in (
+      fits (b4 .before .before .before .before .before .args .edition) _ _ (b4 .if1 .left) (b3 .before .before .scan .ensures) (b3 .counts .given .1) (b2 .link-room .ensures)
+          (b1 .before .before .param-room .ensures) (b1 .if2 .left) (c .before .before .before .if3 .left),
+      search needs,
+    )
 
 returns-4 : tie.Need-returns-4
 returns-4 c =
     let b1 = c .before .before .before in
-    is-malformed _ _ _ (b1 .before .if1 .left) (b1 .scan .ensures) (c .before .p .given .1)
+    is-malformed _ _ _ (b1 .before .before .if1 .left) (b1 .scan .ensures) (c .before .p .given .1)
 
 same-length-5 : tie.Need-same-length-5
 same-length-5 c = search needs
@@ -75,10 +80,10 @@ same-length-6 c = search needs
 returns-5 : tie.Need-returns-5
 returns-5 c =
     let b1 = c .before .before .before .before in
-    let b2 = b1 .before .before .before in
+    let b2 = b1 .before .before .before .before in
     let b3 = b2 .before .before .before .before in
     let b4 = b3 .before .before .before .before .before in
-    let b5 = b4 .before .before .before in
+    let b5 = b4 .before .before .before .before in
     is-done _ _ _ (b5 .if1 .left) (b4 .before .before .scan .ensures) (b4 .counts .given .1)
     (b3 .before .before .link-room .ensures) (b3 .param-room .ensures) (b2 .before .before .if2 .left) (b2 .if3 .left)
     (b1 .fill .ensures)
@@ -87,6 +92,7 @@ pub read-in-spec : {M : Type 1} → statement M
 read-in-spec =
     tie.close
     (tie.spec
+    table-requires
     returns
     scan-requires
     enum-known-p

@@ -7,8 +7,8 @@ use Rattle.reference_sets.proofs.Has.{hex-has}
 use Rattle.reference_octet.proofs.in_triple.Statement.{statement}
 use Rattle.reference_octet.proofs.in_triple.Tie as tie
 
-is-hex-requires : tie.Need-is-hex-requires
-is-hex-requires c κs = search needs
+is-in-requires : tie.Need-is-in-requires
+is-in-requires c κs = search needs
 
 add-pick : tie.Need-add-pick
 add-pick c = search needs
@@ -22,7 +22,7 @@ returns c =
     rw (
       triple-step (start .args .q) (start .args .c) (start .pre .0) (start .pre .1),
       lt-ltb (start .args .q) 32 (c .before .if1 .taken),
-      sym (hex-has (start .args .c)) ∙ sym (c .before .before .is-hex .ensures),
+      sym (hex-has (start .args .c)) ∙ sym (c .before .before .is-in .ensures),
     )
     (c .pick .ensures)
 
@@ -35,10 +35,10 @@ returns-2 c =
     rw (
       triple-step (start .args .q) (start .args .c) (start .pre .0) (start .pre .1),
       le-ltb (start .args .q) 32 (c .before .if1 .left),
-      sym (hex-has (start .args .c)) ∙ sym (c .before .before .is-hex .ensures),
+      sym (hex-has (start .args .c)) ∙ sym (c .before .before .is-in .ensures),
     )
     (c .pick2 .ensures)
 
 pub in-triple-spec : {M : Type 1} → statement M
 in-triple-spec =
-    tie.close (tie.spec is-hex-requires add-pick pick-requires returns pick-requires-2 returns-2)
+    tie.close (tie.spec is-in-requires add-pick pick-requires returns pick-requires-2 returns-2)

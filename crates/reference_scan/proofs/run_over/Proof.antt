@@ -1,6 +1,7 @@
 -- The part is judged as a text of its own. Assumes nothing.
 use mathlib.Core.Path.{sym}
 use lib.Seq.{length-take-le}
+use borrow.Author.Needs.{needs}
 use Rattle.reference_scan.proofs.Over.{stopped-over, whole-over}
 use Rattle.reference_scan.proofs.run_over.Statement.{statement}
 use Rattle.reference_scan.proofs.run_over.Tie as tie
@@ -10,9 +11,11 @@ slice-aggregate-judge c =
     let start = c .before .before .before in sym (length-take-le (start .args .part .to .0) (start .args .s .now) (start .pre .1))
 
 judge-requires : tie.Need-judge-requires
-judge-requires c κs =
-    let start = c .before .before .before in
-    rw (length-take-le (start .args .part .to .0) (start .args .s .now) (start .pre .1)) (start .pre .0)
+judge-requires c κs = (
+  let start = c .before .before .before in
+      rw (length-take-le (start .args .part .to .0) (start .args .s .now) (start .pre .1)) (start .pre .0),
+  search needs,
+)
 
 returns : tie.Need-returns
 returns c =

@@ -4,6 +4,9 @@ use Rattle.table_check.proofs.EntryOutcomes.{state-refused, state-usable, in-ol
 use Rattle.search.proofs.search.Statement.{statement}
 use Rattle.search.proofs.search.Tie as tie
 
+table-requires : tie.Need-table-requires
+table-requires c κs = search needs
+
 state-of-requires : tie.Need-state-of-requires
 state-of-requires c κs = search needs
 
@@ -27,6 +30,7 @@ pub search-spec : {M : Type 1} → statement M
 search-spec =
     tie.close
     (tie.spec
+    table-requires
     state-of-requires
     enum-known-state
     enum-told

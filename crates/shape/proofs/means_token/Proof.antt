@@ -9,45 +9,45 @@ use Rattle.shape.proofs.means_token.Statement.{statement}
 use Rattle.shape.proofs.means_token.Tie as tie
 
 abbrev Inv-loop : tie.InvT-loop
-Inv-loop s a e k₀ k = TokensUpTo s (e .0) (a .0) (k .0)
+Inv-loop classes s a e k₀ k = TokensUpTo s (e .0) (a .0) (k .0)
 
 abbrev μ-loop : tie.MeasureT-loop
-μ-loop s a e k₀ k = e .0 - k .0
+μ-loop classes s a e k₀ k = e .0 - k .0
 
 loop-holds : tie.Need-loop-holds Inv-loop μ-loop
 loop-holds c =
     let start = c .before .before .before in
-    record { inside = start .pre .ordered; forward = omega arith; tokens = refl; some-octet = λ l. absurd (omega arith) }
+    record { inside = start .pre .0 .ordered; forward = omega arith; tokens = refl; some-octet = λ l. absurd (omega arith) }
 
 meant-at-requires : tie.Need-meant-at-requires Inv-loop μ-loop
 meant-at-requires c κs =
     let start = c .before .before .before .before .before .before .before in
-    (c .if1 .taken, start .pre .inside)
+    (c .if1 .taken, start .pre .0 .inside)
 
 returns : tie.Need-returns Inv-loop μ-loop
 returns c =
     let loop′ = c .before .before .before .before .before .before .before .before .before .loop in
     tokens-none (loop′ .inv) (c .before .before .before .before .before .meant-at .ensures) (c .before .before .if2 .taken)
 
-shared-slice-read-is-token : tie.Need-shared-slice-read-is-token Inv-loop μ-loop
-shared-slice-read-is-token c =
+shared-slice-read-is-in : tie.Need-shared-slice-read-is-in Inv-loop μ-loop
+shared-slice-read-is-in c =
     let start = c .before .before .before .before .before .before .before .before .before .before .before .before in
-    omega (arith, c .before .if2 .left, start .pre .inside)
+    omega (arith, c .before .if2 .left, start .pre .0 .inside)
 
-is-token-requires : tie.Need-is-token-requires Inv-loop μ-loop
-is-token-requires c κs = search needs
+is-in-requires : tie.Need-is-in-requires Inv-loop μ-loop
+is-in-requires c κs = search needs
 
 returns-2 : tie.Need-returns-2 Inv-loop μ-loop
 returns-2 c =
     let loop′ = c .before .before .before .before .before .before .before .before .before .before .loop in
     let meant-at′ = c .before .before .before .before .before .before .meant-at in
     let if2′ = c .before .before .before .if2 in
-    tokens-broken (loop′ .inv) (meant-at′ .ensures) (if2′ .left) (sym (c .before .is-token .ensures) ∙ not-true _ (c .if3 .taken))
+    tokens-broken (loop′ .inv) (meant-at′ .ensures) (if2′ .left) (sym (c .before .is-in .ensures) ∙ not-true _ (c .if3 .taken))
 
 next-requires : tie.Need-next-requires Inv-loop μ-loop
 next-requires c κs =
     let start = c .before .before .before .before .before .before .before .before .before .before .before .before .before .before in
-    omega (arith, c .before .before .before .if2 .left, start .pre .inside)
+    omega (arith, c .before .before .before .if2 .left, start .pre .0 .inside)
 
 loop-less : tie.Need-loop-less Inv-loop μ-loop
 loop-less c =
@@ -60,10 +60,10 @@ loop-again c =
     let loop′ = c .before .before .before .before .before .before .before .before .before .before .before .loop in
     let meant-at′ = c .before .before .before .before .before .before .before .meant-at in
     let if2′ = c .before .before .before .before .if2 in
-    let is-token′ = c .before .before .is-token in
+    let is-in′ = c .before .before .is-in in
     let if3′ = c .before .if3 in
     rw (c .next .ensures)
-    (tokens-more (loop′ .inv) (meant-at′ .ensures) (if2′ .left) (sym (is-token′ .ensures) ∙ not-false _ (if3′ .left)))
+    (tokens-more (loop′ .inv) (meant-at′ .ensures) (if2′ .left) (sym (is-in′ .ensures) ∙ not-false _ (if3′ .left)))
 
 returns-3 : tie.Need-returns-3 Inv-loop μ-loop
 returns-3 c = tokens-end (c .before .before .before .before .before .loop .inv) (c .before .before .if1 .left)
@@ -77,8 +77,8 @@ means-token-spec =
     loop-holds
     meant-at-requires
     returns
-    shared-slice-read-is-token
-    is-token-requires
+    shared-slice-read-is-in
+    is-in-requires
     returns-2
     next-requires
     loop-less

@@ -10,10 +10,10 @@ use Rattle.shape.proofs.meant_len.Statement.{statement}
 use Rattle.shape.proofs.meant_len.Tie as tie
 
 abbrev Inv-loop : tie.InvT-loop
-Inv-loop s e n₀ tokens₀ k₀ n tokens k = CountedUpTo s (e .0) (k₀ .0) n tokens (k .0)
+Inv-loop classes s e n₀ tokens₀ k₀ n tokens k = CountedUpTo s (e .0) (k₀ .0) n tokens (k .0)
 
 abbrev μ-loop : tie.MeasureT-loop
-μ-loop s e n₀ tokens₀ k₀ n tokens k = e .0 - k .0
+μ-loop classes s e n₀ tokens₀ k₀ n tokens k = e .0 - k .0
 
 loop-holds : tie.Need-loop-holds Inv-loop μ-loop
 loop-holds c =
@@ -29,7 +29,7 @@ len-for-requires : tie.Need-len-for-requires Inv-loop μ-loop
 len-for-requires c κs =
     let loop′ = c .before .before .before .before .before .before .before .loop in
     let start = c .before .before .before .before .before .before .before .before .before .before .before in
-    omega (arith, loop′ .inv .bound, loop′ .inv .inside, start .pre .0 .inside, start .pre .1)
+    omega (arith, loop′ .inv .bound, loop′ .inv .inside, start .pre .0 .inside, start .pre .1 .0)
 
 returns : tie.Need-returns Inv-loop μ-loop
 returns c =
@@ -55,11 +55,11 @@ add-n c =
       loop′ .inv .bound,
       loop′ .inv .inside,
       start .pre .0 .inside,
-      start .pre .1,
+      start .pre .1 .0,
     )
 
-is-token-requires : tie.Need-is-token-requires Inv-loop μ-loop
-is-token-requires c κs = search needs
+is-in-requires : tie.Need-is-in-requires Inv-loop μ-loop
+is-in-requires c κs = search needs
 
 next-requires : tie.Need-next-requires Inv-loop μ-loop
 next-requires c κs =
@@ -78,13 +78,13 @@ loop-again c =
     let meant-at′ = c .before .before .before .before .before .before .before .meant-at in
     let if2′ = c .before .before .before .before .if2 in
     rw (c .next .ensures)
-    (count-more (loop′ .inv) (meant-at′ .ensures) (if2′ .left) (c .before .before .escaped-len .ensures) (c .before .is-token .ensures))
+    (count-more (loop′ .inv) (meant-at′ .ensures) (if2′ .left) (c .before .before .escaped-len .ensures) (c .before .is-in .ensures))
 
 len-for-requires-2 : tie.Need-len-for-requires-2 Inv-loop μ-loop
 len-for-requires-2 c κs =
     let loop′ = c .before .before .before .loop in
     let start = c .before .before .before .before .before .before .before in
-    omega (arith, loop′ .inv .bound, loop′ .inv .inside, start .pre .0 .inside, start .pre .1)
+    omega (arith, loop′ .inv .bound, loop′ .inv .inside, start .pre .0 .inside, start .pre .1 .0)
 
 returns-2 : tie.Need-returns-2 Inv-loop μ-loop
 returns-2 c = count-end (c .before .before .before .before .loop .inv) (c .before .if1 .left) (c .len-for2 .ensures)
@@ -102,7 +102,7 @@ meant-len-spec =
     shared-slice-read-c
     escaped-len-requires
     add-n
-    is-token-requires
+    is-in-requires
     next-requires
     loop-less
     loop-again

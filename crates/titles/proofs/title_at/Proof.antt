@@ -15,7 +15,7 @@ link-at-requires c κs = search needs
 first-of-requires : tie.Need-first-of-requires
 first-of-requires c κs =
     let start = c .before .before .before .before .before .before .before .before in
-    listed-here (start .pre) (c .before .if1 .left) (c .link-at .ensures) .room
+    listed-here (start .pre .0) (c .before .if1 .left) (c .link-at .ensures) .room
 
 enum-told : tie.Need-enum-told
 enum-told c = search needs
@@ -24,18 +24,20 @@ plain-title-requires : tie.Need-plain-title-requires
 plain-title-requires c κs =
     let link = c .before .before .before .before in
     let start = link .before .before .before .before .before .before .before .before in
-    listed-here (start .pre) (link .before .if1 .left) (link .link-at .ensures)
+    listed-here (start .pre .0) (link .before .if1 .left) (link .link-at .ensures)
 
 enum-known-star : tie.Need-enum-known-star
 enum-known-star c = search needs
 
 judge-requires : tie.Need-judge-requires
-judge-requires c κs =
-    let star = c .before .before in
-    let link = star .before .before .before in
-    let start = link .before .before .before .before .before .before .before .before in
-    star-inside (start .pre) (link .before .if1 .left) (link .link-at .ensures) (star .before .before .first-of .result)
-    (star .before .before .first-of .ensures) (star .star .given .1) .inside
+judge-requires c κs = (
+  let star = c .before .before in
+      let link = star .before .before .before in
+      let start = link .before .before .before .before .before .before .before .before in
+      star-inside (start .pre .0) (link .before .if1 .left) (link .link-at .ensures) (star .before .before .first-of .result)
+      (star .before .before .first-of .ensures) (star .star .given .1) .inside,
+  search needs,
+)
 
 enum-told-2 : tie.Need-enum-told-2
 enum-told-2 c = search needs
@@ -44,23 +46,22 @@ plain-title-requires-2 : tie.Need-plain-title-requires-2
 plain-title-requires-2 c κs =
     let link = c .before .before .before .before .before .before .before .before .before in
     let start = link .before .before .before .before .before .before .before .before in
-    listed-here (start .pre) (link .before .if1 .left) (link .link-at .ensures)
+    listed-here (start .pre .0) (link .before .if1 .left) (link .link-at .ensures)
 
 enum-known-judged : tie.Need-enum-known-judged
 enum-known-judged c = search needs
 
 write-given-requires : tie.Need-write-given-requires
-write-given-requires c κs =
-    let judged = c .before .before in
+write-given-requires c κs = let judged = c .before .before in
     let star = judged .before .before .before .before .before in
     let link = star .before .before .before in
     let start = link .before .before .before .before .before .before .before .before in
     let inside =
-    star-inside (start .pre) (link .before .if1 .left) (link .link-at .ensures) (star .before .before .first-of .result)
+    star-inside (start .pre .0) (link .before .if1 .left) (link .link-at .ensures) (star .before .before .first-of .result)
     (star .before .before .first-of .ensures) (star .star .given .1) .inside
     in
     let right = rw (judged .judged .given .1) at (judged .before .before .judge .ensures) in
-    (inside, right-given right, right-counted right)
+    (inside, right-given right, right-counted right, search needs)
 
 same-length : tie.Need-same-length
 same-length c = search needs
@@ -70,10 +71,10 @@ returns-2 c =
     let link = c .before .before .before .before .before .before .before in
     let start = link .before .before .before .before .before .before .before .before in
     let none =
-    no-star (start .pre) (link .before .if1 .left) (link .link-at .ensures) (c .before .before .before .before .before .before .first-of .result)
+    no-star (start .pre .0) (link .before .if1 .left) (link .link-at .ensures) (c .before .before .before .before .before .before .first-of .result)
     (c .before .before .before .before .before .before .first-of .ensures) (c .before .before .before .before .enum-told .given .1)
     in
-    plain-titled (start .pre) (link .before .if1 .left) (link .link-at .ensures) none (c .before .before .plain-title .ensures)
+    plain-titled (start .pre .0) (link .before .if1 .left) (link .link-at .ensures) none (c .before .before .plain-title .ensures)
 
 same-length-2 : tie.Need-same-length-2
 same-length-2 c = search needs
@@ -86,10 +87,10 @@ returns-3 c =
     let start = link .before .before .before .before .before .before .before .before in
     let wrong = rw (judged .enum-told2 .given .1) at (judged .before .before .judge .ensures) in
     let none =
-    wrong-star (start .pre) (link .before .if1 .left) (link .link-at .ensures) (star .before .before .first-of .result)
+    wrong-star (start .pre .0) (link .before .if1 .left) (link .link-at .ensures) (star .before .before .first-of .result)
     (star .before .before .first-of .ensures) (star .star .given .1) wrong
     in
-    plain-titled (start .pre) (link .before .if1 .left) (link .link-at .ensures) none (c .before .before .plain-title2 .ensures)
+    plain-titled (start .pre .0) (link .before .if1 .left) (link .link-at .ensures) none (c .before .before .plain-title2 .ensures)
 
 same-length-3 : tie.Need-same-length-3
 same-length-3 c = search needs
@@ -101,7 +102,7 @@ returns-4 c =
     let link = star .before .before .before in
     let start = link .before .before .before .before .before .before .before .before in
     let right = rw (judged .judged .given .1) at (judged .before .before .judge .ensures) in
-    right-titled (start .pre) (link .before .if1 .left) (link .link-at .ensures) (star .before .before .first-of .result)
+    right-titled (start .pre .0) (link .before .if1 .left) (link .link-at .ensures) (star .before .before .first-of .result)
     (star .before .before .first-of .ensures) (star .star .given .1) right (c .before .before .write-given .ensures)
 
 pub title-at-spec : {M : Type 1} → statement M

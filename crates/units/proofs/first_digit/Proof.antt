@@ -14,12 +14,11 @@ enum-told c = search needs
 enum-known-a : tie.Need-enum-known-a
 enum-known-a c = search needs
 
-is-hex-requires : tie.Need-is-hex-requires
-is-hex-requires c κs = search needs
+is-in-requires : tie.Need-is-in-requires
+is-in-requires c κs = search needs
 
 second-digit-requires : tie.Need-second-digit-requires
-second-digit-requires c κs =
-    (c .before .before .before .before .before .before .before .pre, sym (c .before .is-hex .ensures) ∙ c .if1 .taken)
+second-digit-requires c κs = (c .before .before .before .before .before .before .before .pre .0, sym (c .before .is-in .ensures) ∙ c .if1 .taken, search needs)
 
 returns : tie.Need-returns
 returns c =
@@ -30,14 +29,14 @@ returns-2 : tie.Need-returns-2
 returns-2 c =
     let match = c .before .before .before .before in
     let seen = rw (match .a .given .1) at (match .before .before .look .ensures) in
-    to-second seen (sym (c .before .before .is-hex .ensures) ∙ c .before .if1 .taken) (c .second-digit .result)
+    to-second seen (sym (c .before .before .is-in .ensures) ∙ c .before .if1 .taken) (c .second-digit .result)
     (c .second-digit .ensures)
 
 returns-3 : tie.Need-returns-3
 returns-3 c =
     let match = c .before .before .before in
     let seen = rw (match .a .given .1) at (match .before .before .look .ensures) in
-    other-first seen (sym (c .before .is-hex .ensures) ∙ c .if1 .left)
+    other-first seen (sym (c .before .is-in .ensures) ∙ c .if1 .left)
 
 pub first-digit-spec : {M : Type 1} → statement M
 first-digit-spec =
@@ -46,7 +45,7 @@ first-digit-spec =
     look-requires
     enum-told
     enum-known-a
-    is-hex-requires
+    is-in-requires
     second-digit-requires
     returns
     returns-2

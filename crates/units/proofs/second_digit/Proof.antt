@@ -14,12 +14,12 @@ enum-told c = search needs
 enum-known-b : tie.Need-enum-known-b
 enum-known-b c = search needs
 
-is-hex-requires : tie.Need-is-hex-requires
-is-hex-requires c κs = search needs
+is-in-requires : tie.Need-is-in-requires
+is-in-requires c κs = search needs
 
 tripled-octet-requires : tie.Need-tripled-octet-requires
 tripled-octet-requires c κs =
-    (c .before .before .before .before .before .before .before .pre .1, sym (c .before .is-hex .ensures) ∙ c .if1 .taken)
+    (c .before .before .before .before .before .before .before .pre .1, sym (c .before .is-in .ensures) ∙ c .if1 .taken)
 
 returns : tie.Need-returns
 returns c =
@@ -30,14 +30,14 @@ returns-2 : tie.Need-returns-2
 returns-2 c =
     let match = c .before .before .before .before in
     let seen = rw (match .b .given .1) at (match .before .before .look .ensures) in
-    second seen (match .before .before .before .before .args .a) (sym (c .before .before .is-hex .ensures) ∙ c .before .if1 .taken)
+    second seen (match .before .before .before .before .args .a) (sym (c .before .before .is-in .ensures) ∙ c .before .if1 .taken)
     (c .tripled-octet .ensures)
 
 returns-3 : tie.Need-returns-3
 returns-3 c =
     let match = c .before .before .before in
     let seen = rw (match .b .given .1) at (match .before .before .look .ensures) in
-    other-second seen (match .before .before .before .before .args .a) (sym (c .before .is-hex .ensures) ∙ c .if1 .left)
+    other-second seen (match .before .before .before .before .args .a) (sym (c .before .is-in .ensures) ∙ c .if1 .left)
 
 pub second-digit-spec : {M : Type 1} → statement M
 second-digit-spec =
@@ -46,7 +46,7 @@ second-digit-spec =
     look-requires
     enum-told
     enum-known-b
-    is-hex-requires
+    is-in-requires
     tripled-octet-requires
     returns
     returns-2

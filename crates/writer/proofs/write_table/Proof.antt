@@ -33,12 +33,11 @@ returns-3 c =
     short-answer (start .args .out .now) related (form-len′ .ensures) (if2′ .left) (c .if3 .taken)
 
 put-links-requires : tie.Need-put-links-requires
-put-links-requires c κs =
-    let start = c .before .before .before .before .before .before .before .before .before .before in
+put-links-requires c κs = let start = c .before .before .before .before .before .before .before .before .before .before in
     let form-len′ = c .before .before .before .form-len in
     let if2′ = c .before .before .if2 in
     let if3′ = c .before .if3 in
-    (start .pre, fits-buffer (form-len′ .ensures) (if2′ .left) (if3′ .left))
+    (start .pre .0, (fits-buffer (form-len′ .ensures) (if2′ .left) (if3′ .left), search needs))
 
 same-length : tie.Need-same-length
 same-length c = search needs

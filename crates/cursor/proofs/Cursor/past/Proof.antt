@@ -4,19 +4,19 @@ use native.Mathlib.Omega.{arith}
 use mathlib.Core.Path.{sym, _∙_}
 use lib.ListN.{length}
 use borrow.Author.Needs.{needs}
-use Rattle.octets.specs.Member.{isIn}
+use Rattle.octet_classes.specs.Sets.{isIn}
 use Rattle.cursor.proofs.RunSoFar.{RunSoFar, begin, more, at-end, stop}
 use Rattle.cursor.proofs.Cursor.past.Statement.{statement}
 use Rattle.cursor.proofs.Cursor.past.Tie as tie
 
 abbrev Inv-loop : tie.InvT-loop
-Inv-loop s set i₀ i = RunSoFar (isIn set) s i₀ i
+Inv-loop classes s set i₀ i = RunSoFar (isIn set) s i₀ i
 
 abbrev μ-loop : tie.MeasureT-loop
-μ-loop s set i₀ i = length s - i
+μ-loop classes s set i₀ i = length s - i
 
 loop-holds : tie.Need-loop-holds Inv-loop μ-loop
-loop-holds c = begin (c .before .pre)
+loop-holds c = begin (c .before .pre .0)
 
 shared-slice-read-is-in : tie.Need-shared-slice-read-is-in Inv-loop μ-loop
 shared-slice-read-is-in c = search needs

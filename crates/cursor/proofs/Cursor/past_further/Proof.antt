@@ -11,10 +11,10 @@ enum-told-2 : tie.Need-enum-told-2
 enum-told-2 c = search needs
 
 past-requires : tie.Need-past-requires
-past-requires c κs = c .before .before .before .pre .inside
+past-requires c κs = (c .before .before .before .pre .0 .inside, search needs)
 
 returns : tie.Need-returns
-returns c = rw (c .enum-told .given .1) (none-further (c .before .before .before .pre))
+returns c = rw (c .enum-told .given .1) (none-further (c .before .before .before .pre .0))
 
 returns-2 : tie.Need-returns-2
 returns-2 c = rw (c .before .enum-told2 .given .1) (ptoken-run (c .past .ensures))

@@ -12,12 +12,12 @@ use Rattle.decoding.proofs.octets_given.measure.Statement.{statement}
 use Rattle.decoding.proofs.octets_given.measure.Tie as tie
 
 abbrev Inv-loop : tie.InvT-loop
-Inv-loop s e escapes awaited₀ n₀ k₀ awaited n k =
+Inv-loop classes s e escapes awaited₀ n₀ k₀ awaited n k =
     (n ≤ k .0)
     × (measured n awaited (given (seen escapes s (e .0) (k .0))) ≡ measured n₀ awaited₀ (given (seen escapes s (e .0) (k₀ .0))))
 
 abbrev μ-loop : tie.MeasureT-loop
-μ-loop s e escapes awaited₀ n₀ k₀ awaited n k = e .0 - k .0
+μ-loop classes s e escapes awaited₀ n₀ k₀ awaited n k = e .0 - k .0
 
 nothing-requires : tie.Need-nothing-requires Inv-loop μ-loop
 nothing-requires c κs = search needs
@@ -49,7 +49,7 @@ loop-again c =
     let start = c .before .before .before .before .before .before .before .before .before .before .before in
     let attribute = sym (c .before .before .before .is-attribute .ensures) ∙ c .before .before .if2 .taken in
     let given =
-    attribute-here (start .args .escapes) (start .args .s .now) (c .before .before .before .before .before .if1 .taken) (start .pre) attribute
+    attribute-here (start .args .escapes) (start .args .s .now) (c .before .before .before .before .before .if1 .taken) (start .pre .0) attribute
     (c .next .ensures)
     in
     (omega (arith, given .onward, loop′ .inv .0), rw (c .before .behind .ensures) (count-on given (loop′ .n) (loop′ .awaited) ∙ loop′ .inv .1))

@@ -14,12 +14,12 @@ use Rattle.decoding.proofs.octets_given.put_given.Statement.{statement}
 use Rattle.decoding.proofs.octets_given.put_given.Tie as tie
 
 abbrev Inv-loop : tie.InvT-loop
-Inv-loop s e escapes out₀ to₀ k₀ out to k =
+Inv-loop classes s e escapes out₀ to₀ k₀ out to k =
     IsGiven (given (seen escapes s (e .0) (k .0)))
     × Putting out₀ (to₀ .0) (octetsGiven (given (seen escapes s (e .0) (k₀ .0)))) out (to .0) (octetsGiven (given (seen escapes s (e .0) (k .0))))
 
 abbrev μ-loop : tie.MeasureT-loop
-μ-loop s e escapes out₀ to₀ k₀ out to k = e .0 - k .0
+μ-loop classes s e escapes out₀ to₀ k₀ out to k = e .0 - k .0
 
 loop-holds : tie.Need-loop-holds Inv-loop μ-loop
 loop-holds c =
@@ -56,7 +56,7 @@ next-requires c κs =
       arith,
       octet-room (onto (octet-first given (loop′ .inv .0)) (loop′ .inv .1)),
       loop′ .inv .1 .lengths,
-      start .good .1 .1 .1 .1 .0,
+      start .good .1 .1 .1 .1 .1 .0,
     )
 
 next-requires-2 : tie.Need-next-requires-2 Inv-loop μ-loop
@@ -119,7 +119,7 @@ next-requires-3 c κs =
     let match = c .before in
     let loop′ = match .before .before .before .before .before .before .before .before .before .loop in
     let given = rw (match .given .given .1) at (match .before .before .unit .ensures) in
-    omega (arith, octet-room (onto (octet-first given (loop′ .inv .0)) (loop′ .inv .1)), loop′ .inv .1 .lengths, c .before .before .before .before .before .before .before .before .before .before .before .before .before .good .1 .1 .1 .1 .0)
+    omega (arith, octet-room (onto (octet-first given (loop′ .inv .0)) (loop′ .inv .1)), loop′ .inv .1 .lengths, c .before .before .before .before .before .before .before .before .before .before .before .before .before .good .1 .1 .1 .1 .1 .0)
 
 loop-less-2 : tie.Need-loop-less-2 Inv-loop μ-loop
 loop-less-2 c =

@@ -5,15 +5,17 @@ use Rattle.filling.proofs.link.fill_link.Statement.{statement}
 use Rattle.filling.proofs.link.fill_link.Tie as tie
 
 target-end-requires : tie.Need-target-end-requires
-target-end-requires c κs = known-target (c .before .before .before .pre)
+target-end-requires c κs = known-target (c .before .before .before .pre .0)
 
 past-octet-requires : tie.Need-past-octet-requires
 past-octet-requires c κs = c .target-end .ensures .1 .inside
 
 fill-params-requires : tie.Need-fill-params-requires
-fill-params-requires c κs =
-    let b1 = c .before .before .before .before .before .before in
-    before-params (b1 .pre) (c .before .before .target-end .ensures) (c .before .past-octet .ensures)
+fill-params-requires c κs = (
+  let b1 = c .before .before .before .before .before .before in
+      before-params (b1 .pre .0) (c .before .before .target-end .ensures) (c .before .past-octet .ensures),
+  search needs,
+)
 
 span-to-requires : tie.Need-span-to-requires
 span-to-requires c κs = search needs
@@ -25,7 +27,7 @@ put-link-requires : tie.Need-put-link-requires
 put-link-requires c κs =
     let b1 = c .before .before .before .before .before .before .before .before in
     let b2 = b1 .before .before .before .before .before in
-    link-room (b2 .pre) (b1 .before .target-end .ensures) (b1 .past-octet .ensures)
+    link-room (b2 .pre .0) (b1 .before .target-end .ensures) (b1 .past-octet .ensures)
 
 same-length : tie.Need-same-length
 same-length c = search needs
@@ -39,7 +41,7 @@ returns c =
     let b2 = b1 .before .before .before in
     let b3 = b2 .before .before .before in
     let b4 = b3 .before .before .before .before in
-    link-filled (b4 .pre) (b3 .target-end .ensures) (b2 .before .before .past-octet .ensures) (b2 .fill-params .ensures)
+    link-filled (b4 .pre .0) (b3 .target-end .ensures) (b2 .before .before .past-octet .ensures) (b2 .fill-params .ensures)
     (b1 .span-to .ensures) (c .before .before .put-link .ensures)
 
 pub fill-link-spec : {M : Type 1} → statement M

@@ -8,13 +8,13 @@ use Rattle.known.proofs.param.read_param.Statement.{statement}
 use Rattle.known.proofs.param.read_param.Tie as tie
 
 past-token-requires : tie.Need-past-token-requires
-past-token-requires c κs = c .before .pre .clear .inside
+past-token-requires c κs = (c .before .pre .0 .clear .inside, search needs)
 
 span-to-requires : tie.Need-span-to-requires
 span-to-requires c κs = search needs
 
 past-blanks-requires : tie.Need-past-blanks-requires
-past-blanks-requires c κs = c .before .past-token .ensures .inside
+past-blanks-requires c κs = (c .before .past-token .ensures .inside, search needs)
 
 sees-requires : tie.Need-sees-requires
 sees-requires c κs = search needs
@@ -23,22 +23,23 @@ past-octet-requires : tie.Need-past-octet-requires
 past-octet-requires c κs = ((c .before .sees .ensures .yes) (c .if1 .taken)) .inside
 
 past-blanks-requires-2 : tie.Need-past-blanks-requires-2
-past-blanks-requires-2 c κs =
-    omega (arith, c .past-octet .ensures, ((c .before .before .sees .ensures .yes) (c .before .if1 .taken)) .inside)
+past-blanks-requires-2 c κs = (omega (arith, c .past-octet .ensures, ((c .before .before .sees .ensures .yes) (c .before .if1 .taken)) .inside), search needs)
 
 read-value-requires : tie.Need-read-value-requires
-read-value-requires c κs =
-    let b1 = c .before .before .before in
-    let b2 = b1 .before .before .before in
-    known-value (b2 .before .before .pre) (b2 .past-token .ensures) (b1 .before .past-blanks .ensures)
-    ((b1 .sees .ensures .yes) (c .before .before .if1 .taken)) (c .before .past-octet .ensures) (c .past-blanks2 .ensures)
+read-value-requires c κs = (
+  let b1 = c .before .before .before in
+      let b2 = b1 .before .before .before in
+      known-value (b2 .before .before .pre .0) (b2 .past-token .ensures) (b1 .before .past-blanks .ensures)
+      ((b1 .sees .ensures .yes) (c .before .before .if1 .taken)) (c .before .past-octet .ensures) (c .past-blanks2 .ensures),
+  search needs,
+)
 
 returns : tie.Need-returns
 returns c =
     let b1 = c .before .before .before in
     let b2 = b1 .before .before .before in
     let b3 = b2 .before .before .before in
-    valued-parsed (b3 .past-token .ensures) (has-name (b3 .before .before .pre) (b3 .past-token .ensures))
+    valued-parsed (b3 .past-token .ensures) (has-name (b3 .before .before .pre .0) (b3 .past-token .ensures))
     (b2 .before .past-blanks .ensures) (b2 .before .before .span-to .ensures)
     ((b2 .sees .ensures .yes) (b1 .before .before .if1 .taken)) (b1 .before .past-octet .ensures) (b1 .past-blanks2 .ensures)
     (c .before .before .read-value .ensures) (refl, refl) refl
@@ -50,7 +51,7 @@ returns-2 : tie.Need-returns-2
 returns-2 c =
     let b1 = c .before .before .before in
     let b2 = b1 .before .before .before .before in
-    flag-parsed (b1 .before .before .past-token .ensures) (has-name (b2 .pre) (b1 .before .before .past-token .ensures))
+    flag-parsed (b1 .before .before .past-token .ensures) (has-name (b2 .pre .0) (b1 .before .before .past-token .ensures))
     (b1 .past-blanks .ensures) (b1 .before .span-to .ensures) ((c .before .before .sees .ensures .not) (c .before .if1 .left))
     (c .span-to2 .ensures) refl
 

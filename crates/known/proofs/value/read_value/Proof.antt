@@ -13,7 +13,7 @@ past-octet-requires c κs = (c .before .sees .ensures .yes) (c .if1 .taken) .ins
 
 inside-end-requires : tie.Need-inside-end-requires
 inside-end-requires c κs =
-    known-quoted (c .before .before .before .before .pre) ((c .before .before .sees .ensures .yes) (c .before .if1 .taken))
+    known-quoted (c .before .before .before .before .pre .0) ((c .before .before .sees .ensures .yes) (c .before .if1 .taken))
     (c .past-octet .ensures)
 
 span-to-requires : tie.Need-span-to-requires
@@ -30,10 +30,10 @@ returns c =
     (c .past-octet2 .ensures)
 
 past-token-requires : tie.Need-past-token-requires
-past-token-requires c κs = c .before .before .before .pre .clear .inside
+past-token-requires c κs = (c .before .before .before .pre .0 .clear .inside, search needs)
 
 past-further-requires : tie.Need-past-further-requires
-past-further-requires c κs = record { inside = c .past-token .ensures .inside; stops = c .past-token .ensures .stops }
+past-further-requires c κs = (record { inside = c .past-token .ensures .inside; stops = c .past-token .ensures .stops }, search needs)
 
 span-to-requires-2 : tie.Need-span-to-requires-2
 span-to-requires-2 c κs = search needs
@@ -45,7 +45,7 @@ returns-2 : tie.Need-returns-2
 returns-2 c =
     let b1 = c .before .before .before in
     let b2 = b1 .before .before in
-    bare-value (b2 .before .before .pre) (b2 .sees .ensures) (b1 .before .if1 .left) (b1 .past-token .ensures)
+    bare-value (b2 .before .before .pre .0) (b2 .sees .ensures) (b1 .before .if1 .left) (b1 .past-token .ensures)
     (c .before .before .past-further .ensures) (c .before .span-to2 .ensures) (c .bare-form .ensures)
 
 pub read-value-spec : {M : Type 1} → statement M

@@ -16,7 +16,7 @@ returns : tie.Need-returns
 returns c = search needs
 
 outside-requires : tie.Need-outside-requires
-outside-requires c κs = (c .before .before .before .pre .0, sym (c .before .is-open .ensures) ∙ c .if1 .left)
+outside-requires c κs = (c .before .before .before .pre .0, sym (c .before .is-open .ensures) ∙ c .if1 .left, search needs)
 
 enum-known-phase : tie.Need-enum-known-phase
 enum-known-phase c = search needs

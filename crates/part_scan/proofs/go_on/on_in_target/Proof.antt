@@ -12,9 +12,8 @@ past-target-requires : tie.Need-past-target-requires
 past-target-requires c κs = search needs
 
 judged-to-requires : tie.Need-judged-to-requires
-judged-to-requires c κs =
-    let y = target-run (c .before .past-blocks .ensures) (c .past-target .ensures) in
-    (y .forward, y .inside)
+judged-to-requires c κs = let y = target-run (c .before .past-blocks .ensures) (c .past-target .ensures) in
+    (y .forward, y .inside, search needs)
 
 behind-requires : tie.Need-behind-requires
 behind-requires c κs = search needs

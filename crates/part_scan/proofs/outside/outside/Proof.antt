@@ -9,16 +9,16 @@ use Rattle.part_scan.proofs.outside.outside.Statement.{statement}
 use Rattle.part_scan.proofs.outside.outside.Tie as tie
 
 abbrev Inv-loop : tie.InvT-loop
-Inv-loop edition s from phase₀ c₀ phase c = OutSoFar (further edition) s phase₀ (c₀ .at .0) phase (c .at .0)
+Inv-loop classes edition s from phase₀ c₀ phase c = OutSoFar (further edition) s phase₀ (c₀ .at .0) phase (c .at .0)
 
 abbrev μ-loop : tie.MeasureT-loop
-μ-loop edition s from phase₀ c₀ phase c = length s - c .at .0
+μ-loop classes edition s from phase₀ c₀ phase c = length s - c .at .0
 
 loop-holds : tie.Need-loop-holds Inv-loop μ-loop
 loop-holds c = none-out _ _ _ _ (c .before .pre .0) (c .before .pre .1)
 
 pass-requires : tie.Need-pass-requires Inv-loop μ-loop
-pass-requires c κs = (c .loop .inv .inside, c .loop .inv .closed)
+pass-requires c κs = (c .loop .inv .inside, c .loop .inv .closed, search needs)
 
 enum-known-last : tie.Need-enum-known-last Inv-loop μ-loop
 enum-known-last c = search needs

@@ -53,7 +53,7 @@ past-quoted-requires : tie.Need-past-quoted-requires
 past-quoted-requires c κs = search needs
 
 beyond-requires-8 : tie.Need-beyond-requires-8
-beyond-requires-8 c κs = ((c .past-quoted .ensures) (further (c .before .before .before .args .edition)) 0 .inside, c .before .before .before .pre .1)
+beyond-requires-8 c κs = ((c .past-quoted .ensures) (further (c .before .before .before .args .edition)) 0 .inside, c .before .before .before .pre .1, search needs)
 
 beyond-requires-9 : tie.Need-beyond-requires-9
 beyond-requires-9 c κs = search needs

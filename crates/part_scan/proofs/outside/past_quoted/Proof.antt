@@ -16,10 +16,10 @@ use Rattle.part_scan.proofs.outside.past_quoted.Statement.{statement}
 use Rattle.part_scan.proofs.outside.past_quoted.Tie as tie
 
 abbrev Inv-loop : tie.InvT-loop
-Inv-loop s c₀ c = (extra : Extra) (base : ℕ) → Stays extra s base 10 (c₀ .at .0) (c .at .0)
+Inv-loop classes s c₀ c = (extra : Extra) (base : ℕ) → Stays extra s base 10 (c₀ .at .0) (c .at .0)
 
 abbrev μ-loop : tie.MeasureT-loop
-μ-loop s c₀ c = length s - c .at .0
+μ-loop classes s c₀ c = length s - c .at .0
 
 -- a pair, with the places as the code moves them
 pair-on : {extra : Extra} {s : List ℕ} {base a d f e : ℕ} → At s a 92 → d ≡ a + 1 → In s isEscapable d → f ≡ d + 1 → Passed isPlain s f e → Stays extra s base 10 a e
@@ -29,7 +29,7 @@ pair-on {s = s} {a = a} {d} {f} {e} b p x q r =
     pair-stays b (subst (In s isEscapable) u x) (subst (λ (k : ℕ). Passed isPlain s k e) v r)
 
 past-plain-requires : tie.Need-past-plain-requires Inv-loop μ-loop
-past-plain-requires c κs = c .before .pre
+past-plain-requires c κs = (c .before .pre .0, search needs)
 
 loop-holds : tie.Need-loop-holds Inv-loop μ-loop
 loop-holds c = λ extra base. stays-here (c .past-plain .ensures .inside)
@@ -53,13 +53,15 @@ past-octet-requires-2 c κs =
     (c .before .sees-in .ensures .yes) (not-false (c .before .sees-in .result) (c .if2 .left)) .inside
 
 past-plain-requires-2 : tie.Need-past-plain-requires-2 Inv-loop μ-loop
-past-plain-requires-2 c κs =
-    let b1 = c .before .before in
-    omega (
-      arith,
-      c .past-octet2 .ensures,
-      (b1 .sees-in .ensures .yes) (not-false (b1 .sees-in .result) (c .before .if2 .left)) .inside,
-    )
+past-plain-requires-2 c κs = (
+  let b1 = c .before .before in
+      omega (
+        arith,
+        c .past-octet2 .ensures,
+        (b1 .sees-in .ensures .yes) (not-false (b1 .sees-in .result) (c .before .if2 .left)) .inside,
+      ),
+  search needs,
+)
 
 loop-less : tie.Need-loop-less Inv-loop μ-loop
 loop-less c =

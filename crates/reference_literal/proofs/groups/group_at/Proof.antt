@@ -6,8 +6,8 @@ use Rattle.reference_sets.proofs.Has.{hex-has}
 use Rattle.reference_literal.proofs.groups.group_at.Statement.{statement}
 use Rattle.reference_literal.proofs.groups.group_at.Tie as tie
 
-is-hex-requires : tie.Need-is-hex-requires
-is-hex-requires c κs = search needs
+is-in-requires : tie.Need-is-in-requires
+is-in-requires c κs = search needs
 
 more-digits-requires : tie.Need-more-digits-requires
 more-digits-requires c κs = search needs
@@ -15,7 +15,7 @@ more-digits-requires c κs = search needs
 returns : tie.Need-returns
 returns c =
     let o = c .before .before .before .args .c in
-    rw (sym (hex-has o) ∙ sym (c .before .before .is-hex .ensures) ∙ c .before .if1 .taken) (c .more-digits .ensures)
+    rw (sym (hex-has o) ∙ sym (c .before .before .is-in .ensures) ∙ c .before .if1 .taken) (c .more-digits .ensures)
 
 group-ends-requires : tie.Need-group-ends-requires
 group-ends-requires c κs = search needs
@@ -24,7 +24,7 @@ returns-2 : tie.Need-returns-2
 returns-2 c =
     let o = c .before .before .before .before .args .c in
     rw (
-      sym (hex-has o) ∙ sym (c .before .before .before .is-hex .ensures) ∙ c .before .before .if1 .left,
+      sym (hex-has o) ∙ sym (c .before .before .before .is-in .ensures) ∙ c .before .before .if1 .left,
       eq-eqb o 58 (c .before .if2 .taken),
     )
     (c .group-ends .ensures)
@@ -36,7 +36,7 @@ returns-3 : tie.Need-returns-3
 returns-3 c =
     let o = c .before .before .before .before .before .args .c in
     rw (
-      sym (hex-has o) ∙ sym (c .before .before .before .before .is-hex .ensures) ∙ c .before .before .before .if1 .left,
+      sym (hex-has o) ∙ sym (c .before .before .before .before .is-in .ensures) ∙ c .before .before .before .if1 .left,
       ne-eqb o 58 (c .before .before .if2 .left),
       eq-eqb o 93 (c .before .if3 .taken),
     )
@@ -49,7 +49,7 @@ returns-4 : tie.Need-returns-4
 returns-4 c =
     let o = c .before .before .before .before .before .args .c in
     rw (
-      sym (hex-has o) ∙ sym (c .before .before .before .before .is-hex .ensures) ∙ c .before .before .before .if1 .left,
+      sym (hex-has o) ∙ sym (c .before .before .before .before .is-in .ensures) ∙ c .before .before .before .if1 .left,
       ne-eqb o 58 (c .before .before .if2 .left),
       ne-eqb o 93 (c .before .if3 .left),
     )
@@ -59,7 +59,7 @@ pub group-at-spec : {M : Type 1} → statement M
 group-at-spec =
     tie.close
     (tie.spec
-    is-hex-requires
+    is-in-requires
     more-digits-requires
     returns
     group-ends-requires

@@ -5,8 +5,8 @@ use Rattle.reference_steps.specs.Machine.{step}
 use Rattle.reference_literal.proofs.literals.behind_bracket.Statement.{statement}
 use Rattle.reference_literal.proofs.literals.behind_bracket.Tie as tie
 
-is-hex-requires : tie.Need-is-hex-requires
-is-hex-requires c κs = search needs
+is-in-requires : tie.Need-is-in-requires
+is-in-requires c κs = search needs
 
 more-digits-requires : tie.Need-more-digits-requires
 more-digits-requires c κs = search needs
@@ -28,7 +28,7 @@ returns c =
       c .before .pick2 .ensures,
       c .before .before .pick .ensures,
       c .before .before .before .more-digits .ensures,
-      c .before .before .before .before .is-hex .ensures,
+      c .before .before .before .before .is-in .ensures,
       hex-has (c .before .before .before .before .before .args .c),
       vee-has (c .before .before .before .before .before .args .c),
     )
@@ -37,7 +37,7 @@ pub behind-bracket-spec : {M : Type 1} → statement M
 behind-bracket-spec =
     tie.close
     (tie.spec
-    is-hex-requires
+    is-in-requires
     more-digits-requires
     pick-requires
     pick-requires-2

@@ -13,8 +13,8 @@ behind-bracket-requires c κs = search needs
 pick-requires : tie.Need-pick-requires
 pick-requires c κs = search needs
 
-is-hex-requires : tie.Need-is-hex-requires
-is-hex-requires c κs = search needs
+is-in-requires : tie.Need-is-in-requires
+is-in-requires c κs = search needs
 
 pick-requires-2 : tie.Need-pick-requires-2
 pick-requires-2 c κs = search needs
@@ -42,7 +42,7 @@ returns-2 c = rw (c .before .match .keys2) (c .pick .ensures)
 returns-3 : tie.Need-returns-3
 unfolding step
 returns-3 c =
-    rw (c .before .before .match .keys3, c .pick2 .ensures, c .before .is-hex .ensures, hex-has (c .before .before .before .args .c))
+    rw (c .before .before .match .keys3, c .pick2 .ensures, c .before .is-in .ensures, hex-has (c .before .before .before .args .c))
 
 returns-4 : tie.Need-returns-4
 unfolding step
@@ -61,7 +61,7 @@ in-bracket-spec =
     (tie.spec
     behind-bracket-requires
     pick-requires
-    is-hex-requires
+    is-in-requires
     pick-requires-2
     in-version-requires
     is-plain-requires

@@ -5,8 +5,8 @@ use Rattle.reference_sets.proofs.Has.{hex-has}
 use Rattle.reference_literal.proofs.literals.in_version.Statement.{statement}
 use Rattle.reference_literal.proofs.literals.in_version.Tie as tie
 
-is-hex-requires : tie.Need-is-hex-requires
-is-hex-requires c κs = search needs
+is-in-requires : tie.Need-is-in-requires
+is-in-requires c κs = search needs
 
 pick-requires : tie.Need-pick-requires
 pick-requires c κs = search needs
@@ -17,7 +17,7 @@ pick-requires-2 c κs = search needs
 returns : tie.Need-returns
 unfolding step
 returns c =
-    rw (c .pick2 .ensures, c .before .pick .ensures, c .before .before .is-hex .ensures, hex-has (c .before .before .before .args .c))
+    rw (c .pick2 .ensures, c .before .pick .ensures, c .before .before .is-in .ensures, hex-has (c .before .before .before .args .c))
 
 pub in-version-spec : {M : Type 1} → statement M
-in-version-spec = tie.close (tie.spec is-hex-requires pick-requires pick-requires-2 returns)
+in-version-spec = tie.close (tie.spec is-in-requires pick-requires pick-requires-2 returns)

@@ -42,7 +42,7 @@ returns-6 : tie.Need-returns-6
 unfolding step
 returns-6 c =
     let start = c .before .before .before .before .before in
-    let last : start .args .q ≡ 14 = omega (arith, start .pre) in rw last
+    let last : start .args .q ≡ 14 = omega (arith, start .pre .0) in rw last
 
 pub outer-spec : {M : Type 1} → statement M
 outer-spec =

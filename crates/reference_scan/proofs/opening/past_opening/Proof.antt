@@ -11,7 +11,7 @@ judged-up-to-requires c κs = search needs
 returns : tie.Need-returns
 returns c =
     let start = c .before .before .before in
-    comes-here (c .judged-up-to .result) (c .judged-up-to .ensures) (comes-none (start .args .q) (start .pre))
+    comes-here (c .judged-up-to .result) (c .judged-up-to .ensures) (comes-none (start .args .q) (start .pre .0))
 
 sees-root-requires : tie.Need-sees-root-requires
 sees-root-requires c κs = search needs
@@ -36,7 +36,7 @@ judged-up-to-requires-3 c κs = search needs
 returns-3 : tie.Need-returns-3
 returns-3 c =
     let start = c .before .before .before .before .before .before in
-    comes-here (c .judged-up-to3 .result) (c .judged-up-to3 .ensures) (comes-none (start .args .q) (start .pre))
+    comes-here (c .judged-up-to3 .result) (c .judged-up-to3 .ensures) (comes-none (start .args .q) (start .pre .0))
 
 opening-requires : tie.Need-opening-requires
 opening-requires c κs = search needs
@@ -47,7 +47,7 @@ judged-up-to-requires-4 c κs = search needs
 returns-4 : tie.Need-returns-4
 returns-4 c =
     let start = c .before .before .before .before .before .before .before .before in
-    comes-here (c .judged-up-to4 .result) (c .judged-up-to4 .ensures) (comes-none (start .args .q) (start .pre))
+    comes-here (c .judged-up-to4 .result) (c .judged-up-to4 .ensures) (comes-none (start .args .q) (start .pre .0))
 
 add-judged-up-to-2 : tie.Need-add-judged-up-to-2
 add-judged-up-to-2 c = let passed = c .before .opening .ensures (c .if4 .left) in omega (arith, passed .inside)

@@ -30,7 +30,7 @@ returns-2 : tie.Need-returns-2
 returns-2 c =
     let b = c .before .before .before in
     let a = b .before .before in
-    let h : a .args .i + 2 ≤ length (a .args .s .now) = omega (arith, b .if1 .left, a .pre) in
+    let h : a .args .i + 2 ≤ length (a .args .s .now) = omega (arith, b .if1 .left, a .pre .0) in
     λ e. root (a .args .s .now) (a .args .i) h (rw (c .is-path .ensures) at e)
 
 pub sees-root-spec : {M : Type 1} → statement M

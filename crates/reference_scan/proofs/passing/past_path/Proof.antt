@@ -1,10 +1,6 @@
--- Whole blocks, then a part of one, or the rest of the text by bits. Assumes nothing.
-use mathlib.Core.Path.{refl}
+-- Whole blocks, then a part of one, or the rest of the text octet by octet. Assumes nothing.
 use borrow.Author.Needs.{needs}
-use Rattle.octets.specs.Bits.{inBits}
-use Rattle.reference_sets.specs.Sets.{isPath}
-use Rattle.reference_scan.proofs.Runs.{passed-then, passed-within}
-use Rattle.reference_scan.proofs.Commons.{bits-within}
+use Rattle.reference_scan.proofs.Runs.{passed-then}
 use Rattle.reference_scan.proofs.passing.past_path.Statement.{statement}
 use Rattle.reference_scan.proofs.passing.past_path.Tie as tie
 
@@ -23,14 +19,11 @@ add-result c = search needs
 returns : tie.Need-returns
 returns c = passed-then (c .before .before .past-blocks .ensures) (c .count-common .ensures)
 
-past-set-requires : tie.Need-past-set-requires
-past-set-requires c κs = search needs
+past-each-requires : tie.Need-past-each-requires
+past-each-requires c κs = search needs
 
 returns-2 : tie.Need-returns-2
-unfolding inBits
-returns-2 c =
-    passed-then (c .before .before .past-blocks .ensures)
-    (passed-within (bits-within _ _ isPath refl) (c .past-set .ensures))
+returns-2 c = passed-then (c .before .before .past-blocks .ensures) (c .past-each .ensures)
 
 pub past-path-spec : {M : Type 1} → statement M
 past-path-spec =
@@ -41,5 +34,5 @@ past-path-spec =
     count-common-requires
     add-result
     returns
-    past-set-requires
+    past-each-requires
     returns-2)

@@ -17,30 +17,30 @@ returns c = λ e. absurd (false≢true e)
 shared-slice-read-result : tie.Need-shared-slice-read-result
 shared-slice-read-result c = search needs
 
-add-is-hex : tie.Need-add-is-hex
-add-is-hex c = search needs
+add-is-in : tie.Need-add-is-in
+add-is-in c = search needs
 
-shared-slice-read-is-hex : tie.Need-shared-slice-read-is-hex
-shared-slice-read-is-hex c = search needs
+shared-slice-read-is-in : tie.Need-shared-slice-read-is-in
+shared-slice-read-is-in c = search needs
 
-is-hex-requires : tie.Need-is-hex-requires
-is-hex-requires c κs = search needs
+is-in-requires : tie.Need-is-in-requires
+is-in-requires c κs = search needs
 
-add-is-hex-2 : tie.Need-add-is-hex-2
-add-is-hex-2 c = search needs
+add-is-in-2 : tie.Need-add-is-in-2
+add-is-in-2 c = search needs
 
-shared-slice-read-is-hex-2 : tie.Need-shared-slice-read-is-hex-2
-shared-slice-read-is-hex-2 c = search needs
+shared-slice-read-is-in-2 : tie.Need-shared-slice-read-is-in-2
+shared-slice-read-is-in-2 c = search needs
 
-is-hex-requires-2 : tie.Need-is-hex-requires-2
-is-hex-requires-2 c κs = search needs
+is-in-requires-2 : tie.Need-is-in-requires-2
+is-in-requires-2 c κs = search needs
 
 returns-2 : tie.Need-returns-2
 returns-2 c =
     let b = c .before .before .before .before .before in
     let a = b .before .before in
     let h : a .args .i + 3 ≤ length (a .args .s .now) = omega (arith, b .if1 .left, a .pre .0) in
-    λ e. (h, triple (a .args .s .now) (a .args .i) h (rw (c .before .before .is-hex .ensures, c .is-hex2 .ensures) at e) (a .args .q) (a .pre .1))
+    λ e. (h, triple (a .args .s .now) (a .args .i) h (rw (c .before .before .is-in .ensures, c .is-in2 .ensures) at e) (a .args .q) (a .pre .1))
 
 pub sees-triple-spec : {M : Type 1} → statement M
 sees-triple-spec =
@@ -49,10 +49,10 @@ sees-triple-spec =
     sub-if1
     returns
     shared-slice-read-result
-    add-is-hex
-    shared-slice-read-is-hex
-    is-hex-requires
-    add-is-hex-2
-    shared-slice-read-is-hex-2
-    is-hex-requires-2
+    add-is-in
+    shared-slice-read-is-in
+    is-in-requires
+    add-is-in-2
+    shared-slice-read-is-in-2
+    is-in-requires-2
     returns-2)

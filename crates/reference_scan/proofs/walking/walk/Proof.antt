@@ -11,16 +11,16 @@ use Rattle.reference_scan.proofs.walking.walk.Statement.{statement}
 use Rattle.reference_scan.proofs.walking.walk.Tie as tie
 
 abbrev Inv-loop : tie.InvT-loop
-Inv-loop s from state i₀ q₀ i q = Comes s i₀ q₀ i q
+Inv-loop classes s from state i₀ q₀ i q = Comes s i₀ q₀ i q
 
 abbrev μ-loop : tie.MeasureT-loop
-μ-loop s from state i₀ q₀ i q = length s - i
+μ-loop classes s from state i₀ q₀ i q = length s - i
 
 loop-holds : tie.Need-loop-holds Inv-loop μ-loop
-loop-holds c = comes-none (c .before .args .state) (c .before .pre)
+loop-holds c = comes-none (c .before .args .state) (c .before .pre .0)
 
 past-run-requires : tie.Need-past-run-requires Inv-loop μ-loop
-past-run-requires c κs = c .loop .inv .inside
+past-run-requires c κs = (c .loop .inv .inside, search needs)
 
 judged-up-to-requires : tie.Need-judged-up-to-requires Inv-loop μ-loop
 judged-up-to-requires c κs = search needs

@@ -1,19 +1,13 @@
--- `is_path` meets its contract: its bits are the octets of the set, by one test at each octet. Assumes nothing.
-use native.Mathlib.Omega.{arith}
-use mathlib.Core.Path.{refl, _∙_}
+-- The tests are those of the definition, in its order. Assumes nothing.
 use borrow.Author.Needs.{needs}
-use Rattle.octets.specs.Bits.{inBits}
-use Rattle.octets.proofs.Octets.{alike}
-use Rattle.reference_sets.specs.Sets.{isPath}
 use Rattle.reference_sets.proofs.sets.is_path.Statement.{statement}
 use Rattle.reference_sets.proofs.sets.is_path.Tie as tie
 
-in-bits-requires : tie.Need-in-bits-requires
-in-bits-requires c κs = search needs
+is-plain-requires : tie.Need-is-plain-requires
+is-plain-requires c κs = search needs
 
 returns : tie.Need-returns
-unfolding inBits
-returns c = c .in-bits .ensures ∙ alike (inBits _ _) (isPath) refl (c .before .args .c) (omega arith)
+returns c = cc
 
 pub is-path-spec : {M : Type 1} → statement M
-is-path-spec = tie.close (tie.spec in-bits-requires returns)
+is-path-spec = tie.close (tie.spec is-plain-requires returns)

@@ -1,20 +1,16 @@
--- `is_scheme` meets its contract: its bits are the octets of the set, by one test at each octet. Assumes nothing.
-use native.Mathlib.Omega.{arith}
-use mathlib.Core.Path.{refl, _∙_}
+-- The tests are those of the definition, in its order. Assumes nothing.
 use borrow.Author.Needs.{needs}
-use Rattle.octets.specs.Bits.{inBits}
-use Rattle.octets.proofs.Octets.{alike}
-use Rattle.reference_steps.specs.Machine.{inScheme}
-use Rattle.reference_sets.specs.Sets.{of}
 use Rattle.reference_sets.proofs.sets.is_scheme.Statement.{statement}
 use Rattle.reference_sets.proofs.sets.is_scheme.Tie as tie
 
-in-bits-requires : tie.Need-in-bits-requires
-in-bits-requires c κs = search needs
+is-alpha-requires : tie.Need-is-alpha-requires
+is-alpha-requires c κs = search needs
+
+is-digit-requires : tie.Need-is-digit-requires
+is-digit-requires c κs = search needs
 
 returns : tie.Need-returns
-unfolding inBits
-returns c = c .in-bits .ensures ∙ alike (inBits _ _) (λ k. inScheme (of k)) refl (c .before .args .c) (omega arith)
+returns c = cc
 
 pub is-scheme-spec : {M : Type 1} → statement M
-is-scheme-spec = tie.close (tie.spec in-bits-requires returns)
+is-scheme-spec = tie.close (tie.spec is-alpha-requires is-digit-requires returns)

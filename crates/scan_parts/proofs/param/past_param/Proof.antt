@@ -15,7 +15,7 @@ past-token-requires c κs = search needs
 returns : tie.Need-returns
 returns c =
     let b1 = c .before .before .before .before in
-    no-param (no-param-here (b1 .before .before .pre) (b1 .past-token .ensures) (c .before .if1 .taken))
+    no-param (no-param-here (b1 .before .before .pre .0) (b1 .past-token .ensures) (c .before .if1 .taken))
 
 span-to-requires : tie.Need-span-to-requires
 span-to-requires c κs = search needs
@@ -30,8 +30,7 @@ past-octet-requires : tie.Need-past-octet-requires
 past-octet-requires c κs = ((c .before .sees .ensures .yes) (c .if2 .taken)) .inside
 
 past-blanks-requires-2 : tie.Need-past-blanks-requires-2
-past-blanks-requires-2 c κs =
-    omega (arith, c .past-octet .ensures, ((c .before .before .sees .ensures .yes) (c .before .if2 .taken)) .inside)
+past-blanks-requires-2 c κs = (omega (arith, c .past-octet .ensures, ((c .before .before .sees .ensures .yes) (c .before .if2 .taken)) .inside), search needs)
 
 past-value-requires : tie.Need-past-value-requires
 past-value-requires c κs = search needs

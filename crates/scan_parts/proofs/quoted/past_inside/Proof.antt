@@ -10,13 +10,13 @@ use Rattle.scan_parts.proofs.quoted.past_inside.Statement.{statement}
 use Rattle.scan_parts.proofs.quoted.past_inside.Tie as tie
 
 abbrev Inv-loop : tie.InvT-loop
-Inv-loop s c₀ c = InsideSoFar s (c₀ .at .0) (c .at .0)
+Inv-loop classes s c₀ c = InsideSoFar s (c₀ .at .0) (c .at .0)
 
 abbrev μ-loop : tie.MeasureT-loop
-μ-loop s c₀ c = length s - c .at .0
+μ-loop classes s c₀ c = length s - c .at .0
 
 past-plain-requires : tie.Need-past-plain-requires Inv-loop μ-loop
-past-plain-requires c κs = c .before .pre
+past-plain-requires c κs = (c .before .pre .0, search needs)
 
 loop-holds : tie.Need-loop-holds Inv-loop μ-loop
 loop-holds c = begin (c .past-plain .ensures)
@@ -59,13 +59,15 @@ past-octet-requires-2 c κs =
     (c .before .sees-in .ensures .yes) (not-false (c .before .sees-in .result) (c .if3 .left)) .inside
 
 past-plain-requires-2 : tie.Need-past-plain-requires-2 Inv-loop μ-loop
-past-plain-requires-2 c κs =
-    omega (
-      arith,
-      c .past-octet2 .ensures,
-      (c .before .before .sees-in .ensures .yes)
-          (not-false (c .before .before .sees-in .result) (c .before .if3 .left)) .inside,
-    )
+past-plain-requires-2 c κs = (
+  omega (
+    arith,
+    c .past-octet2 .ensures,
+    (c .before .before .sees-in .ensures .yes)
+        (not-false (c .before .before .sees-in .result) (c .before .if3 .left)) .inside,
+  ),
+  search needs,
+)
 
 loop-less : tie.Need-loop-less Inv-loop μ-loop
 loop-less c =

@@ -10,13 +10,13 @@ use Rattle.scan_parts.proofs.target.past_units.Statement.{statement}
 use Rattle.scan_parts.proofs.target.past_units.Tie as tie
 
 abbrev Inv-loop : tie.InvT-loop
-Inv-loop s c₀ c = TargetSoFar s (c₀ .at .0) (c .at .0)
+Inv-loop classes s c₀ c = TargetSoFar s (c₀ .at .0) (c .at .0)
 
 abbrev μ-loop : tie.MeasureT-loop
-μ-loop s c₀ c = length s - c .at .0
+μ-loop classes s c₀ c = length s - c .at .0
 
 past-target-requires : tie.Need-past-target-requires Inv-loop μ-loop
-past-target-requires c κs = c .before .pre
+past-target-requires c κs = (c .before .pre .0, search needs)
 
 loop-holds : tie.Need-loop-holds Inv-loop μ-loop
 loop-holds c = begin (c .past-target .ensures)
@@ -62,7 +62,7 @@ enum-known-d : tie.Need-enum-known-d Inv-loop μ-loop
 enum-known-d c = search needs
 
 past-target-requires-2 : tie.Need-past-target-requires-2 Inv-loop μ-loop
-past-target-requires-2 c κs = past-inside (c .before .before .before .past-triple .ensures) (c .before .d .given .1) .1
+past-target-requires-2 c κs = (past-inside (c .before .before .before .past-triple .ensures) (c .before .d .given .1) .1, search needs)
 
 loop-less : tie.Need-loop-less Inv-loop μ-loop
 loop-less c =

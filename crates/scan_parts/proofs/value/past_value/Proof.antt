@@ -16,8 +16,7 @@ past-octet-requires : tie.Need-past-octet-requires
 past-octet-requires c κs = ((c .before .sees .ensures .yes) (c .if1 .taken)) .inside
 
 past-inside-requires : tie.Need-past-inside-requires
-past-inside-requires c κs =
-    omega (arith, c .past-octet .ensures, ((c .before .before .sees .ensures .yes) (c .before .if1 .taken)) .inside)
+past-inside-requires c κs = (omega (arith, c .past-octet .ensures, ((c .before .before .sees .ensures .yes) (c .before .if1 .taken)) .inside), search needs)
 
 enum-known-p : tie.Need-enum-known-p
 enum-known-p c = search needs
@@ -51,14 +50,14 @@ past-token-requires : tie.Need-past-token-requires
 past-token-requires c κs = search needs
 
 past-further-requires : tie.Need-past-further-requires
-past-further-requires c κs = record { inside = c .past-token .ensures .inside; stops = c .past-token .ensures .stops }
+past-further-requires c κs = (record { inside = c .past-token .ensures .inside; stops = c .past-token .ensures .stops }, search needs)
 
 returns-3 : tie.Need-returns-3
 returns-3 c =
     let b1 = c .before .before .before .before in
     let b2 = b1 .before .before .before in
     no-value
-    (no-value-here (b2 .before .before .pre) ((b2 .sees .ensures .not) (b1 .before .before .if1 .left))
+    (no-value-here (b2 .before .before .pre .0) ((b2 .sees .ensures .not) (b1 .before .before .if1 .left))
     (b1 .before .past-token .ensures) (b1 .past-further .ensures) (c .before .if2 .taken))
 
 span-to-requires-2 : tie.Need-span-to-requires-2

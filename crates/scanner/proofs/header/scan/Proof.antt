@@ -11,10 +11,10 @@ use Rattle.scanner.proofs.header.scan.Statement.{statement}
 use Rattle.scanner.proofs.header.scan.Tie as tie
 
 abbrev Inv-loop : tie.InvT-loop
-Inv-loop edition s c₀ counts₀ c counts = LinksSoFar (further edition) s (c .at .0) counts
+Inv-loop classes edition s c₀ counts₀ c counts = LinksSoFar (further edition) s (c .at .0) counts
 
 abbrev μ-loop : tie.MeasureT-loop
-μ-loop edition s c₀ counts₀ c counts = length s - c .at .0
+μ-loop classes edition s c₀ counts₀ c counts = length s - c .at .0
 
 start-requires : tie.Need-start-requires Inv-loop μ-loop
 start-requires c κs = search needs
@@ -23,7 +23,7 @@ loop-holds : tie.Need-loop-holds Inv-loop μ-loop
 loop-holds c = start (apart (c .before .before .args .edition)) (c .start .ensures)
 
 past-blanks-requires : tie.Need-past-blanks-requires Inv-loop μ-loop
-past-blanks-requires c κs = (c .loop .inv .stands .inside)
+past-blanks-requires c κs = ((c .loop .inv .stands .inside), search needs)
 
 returns : tie.Need-returns Inv-loop μ-loop
 returns c = ended (c .before .before .before .loop .inv) (c .before .before .past-blanks .ensures) (c .if1 .taken)
@@ -59,7 +59,7 @@ past-octet-requires-2 : tie.Need-past-octet-requires-2 Inv-loop μ-loop
 past-octet-requires-2 c κs = search needs
 
 past-link-requires : tie.Need-past-link-requires Inv-loop μ-loop
-past-link-requires c κs = omega (arith, (c .past-octet2 .ensures), (c .before .before .before .before .before .if1 .left))
+past-link-requires c κs = (omega (arith, (c .past-octet2 .ensures), (c .before .before .before .before .before .if1 .left)), search needs)
 
 enum-known-p : tie.Need-enum-known-p Inv-loop μ-loop
 enum-known-p c = search needs
@@ -87,7 +87,7 @@ add-counts c =
       b2 .loop .inv .stands .inside,
       b1 .before .before .past-blanks .ensures .forward,
       b1 .if1 .left,
-      b3 .good .1 .0,
+      b3 .good .1 .1 .0,
     )
 
 add-counts-2 : tie.Need-add-counts-2 Inv-loop μ-loop
@@ -107,7 +107,7 @@ add-counts-2 c =
       b2 .past-octet2 .ensures,
       w .0,
       w .1,
-      b4 .good .1 .0,
+      b4 .good .1 .1 .0,
     )
 
 returns-4 : tie.Need-returns-4 Inv-loop μ-loop

@@ -18,9 +18,11 @@ past-octet-requires : tie.Need-past-octet-requires
 past-octet-requires c κs = target-inside (c .before .before .before .past-target .ensures) (c .before .c .given .1)
 
 past-params-requires : tie.Need-past-params-requires
-past-params-requires c κs =
-    let b1 = c .before .before .before .before in
-    omega (arith, (c .past-octet .ensures), target-inside (b1 .past-target .ensures) (c .before .before .c .given .1))
+past-params-requires c κs = (
+  let b1 = c .before .before .before .before in
+      omega (arith, (c .past-octet .ensures), target-inside (b1 .past-target .ensures) (c .before .before .c .given .1)),
+  search needs,
+)
 
 returns : tie.Need-returns
 returns c = target-stuck (c .before .before .before .past-target .ensures) (c .before .p .given .1)

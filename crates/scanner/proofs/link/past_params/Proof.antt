@@ -13,19 +13,19 @@ use Rattle.scanner.proofs.link.past_params.Statement.{statement}
 use Rattle.scanner.proofs.link.past_params.Tie as tie
 
 abbrev Inv-loop : tie.InvT-loop
-Inv-loop edition s c₀ kept₀ seen₀ c kept seen = (params : List Param) × ParamsSoFar (further edition) s (c₀ .at .0) (c .at .0) kept seen params
+Inv-loop classes edition s c₀ kept₀ seen₀ c kept seen = (params : List Param) × ParamsSoFar (further edition) s (c₀ .at .0) (c .at .0) kept seen params
 
 abbrev μ-loop : tie.MeasureT-loop
-μ-loop edition s c₀ kept₀ seen₀ c kept seen = length s - c .at .0
+μ-loop classes edition s c₀ kept₀ seen₀ c kept seen = length s - c .at .0
 
 none-requires : tie.Need-none-requires Inv-loop μ-loop
 none-requires c κs = search needs
 
 loop-holds : tie.Need-loop-holds Inv-loop μ-loop
-loop-holds c = ([], begin (c .before .before .pre) (c .none .ensures))
+loop-holds c = ([], begin (c .before .before .pre .0) (c .none .ensures))
 
 past-blanks-requires : tie.Need-past-blanks-requires Inv-loop μ-loop
-past-blanks-requires c κs = (c .loop .inv .1 .inside)
+past-blanks-requires c κs = ((c .loop .inv .1 .inside), search needs)
 
 returns : tie.Need-returns Inv-loop μ-loop
 returns c = params-ended (c .before .before .before .loop .inv .1) (c .before .before .past-blanks .ensures) (inl (c .if1 .taken))
@@ -52,10 +52,10 @@ past-octet-requires : tie.Need-past-octet-requires Inv-loop μ-loop
 past-octet-requires c κs = search needs
 
 past-blanks-requires-2 : tie.Need-past-blanks-requires-2 Inv-loop μ-loop
-past-blanks-requires-2 c κs = omega (arith, (c .past-octet .ensures), (c .before .before .before .before .before .if1 .left))
+past-blanks-requires-2 c κs = (omega (arith, (c .past-octet .ensures), (c .before .before .before .before .before .if1 .left)), search needs)
 
 past-param-requires : tie.Need-past-param-requires Inv-loop μ-loop
-past-param-requires c κs = record { inside = (c .past-blanks2 .ensures .inside); clear = (c .past-blanks2 .ensures .stops) }
+past-param-requires c κs = (record { inside = (c .past-blanks2 .ensures .inside); clear = (c .past-blanks2 .ensures .stops) }, search needs)
 
 enum-known-p : tie.Need-enum-known-p Inv-loop μ-loop
 enum-known-p c = search needs
@@ -89,7 +89,7 @@ counted-requires c κs =
       few-so-far (b2 .loop .inv .1),
       b1 .before .before .past-blanks .ensures .forward,
       b1 .if1 .left,
-      b3 .good .1 .0,
+      b3 .good .1 .1 .0,
     )
 
 with-requires : tie.Need-with-requires Inv-loop μ-loop

@@ -11,10 +11,10 @@ use Rattle.table_check.proofs.links.are_all_good.Statement.{statement}
 use Rattle.table_check.proofs.links.are_all_good.Tie as tie
 
 abbrev Inv-loop : tie.InvT-loop
-Inv-loop edition text links params counts i₀ i = EachParams (further edition) text links params (i .0)
+Inv-loop classes edition text links params counts i₀ i = EachParams (further edition) text links params (i .0)
 
 abbrev μ-loop : tie.MeasureT-loop
-μ-loop edition text links params counts i₀ i = counts .links - i .0
+μ-loop classes edition text links params counts i₀ i = counts .links - i .0
 
 first-requires : tie.Need-first-requires Inv-loop μ-loop
 first-requires c κs = search needs
@@ -23,10 +23,10 @@ loop-holds : tie.Need-loop-holds Inv-loop μ-loop
 loop-holds c = λ j l. absurd (omega (arith, c .first .ensures))
 
 link-at-requires : tie.Need-link-at-requires Inv-loop μ-loop
-link-at-requires c κs = omega (arith, c .if1 .taken, c .before .before .before .before .before .before .before .before .pre .link-room)
+link-at-requires c κs = omega (arith, c .if1 .taken, c .before .before .before .before .before .before .before .before .pre .0 .link-room)
 
 are-good-params-requires : tie.Need-are-good-params-requires Inv-loop μ-loop
-are-good-params-requires c κs = in-room (c .before .before .before .before .before .before .before .before .before .pre) (c .before .if1 .taken) (c .link-at .ensures)
+are-good-params-requires c κs = (in-room (c .before .before .before .before .before .before .before .before .before .pre .0) (c .before .if1 .taken) (c .link-at .ensures), search needs)
 
 returns : tie.Need-returns Inv-loop μ-loop
 returns c =
@@ -34,7 +34,7 @@ returns c =
     not-so (λ g. c .before .are-good-params .ensures .fails (not-true _ (c .if2 .taken)) (here (c .before .before .link-at .ensures) (g _ (b1 .if1 .taken))))
 
 next-requires : tie.Need-next-requires Inv-loop μ-loop
-next-requires c κs = omega (arith, c .before .before .before .if1 .taken, c .before .before .before .before .before .before .before .before .before .before .before .pre .link-room)
+next-requires c κs = omega (arith, c .before .before .before .if1 .taken, c .before .before .before .before .before .before .before .before .before .before .before .pre .0 .link-room)
 
 loop-less : tie.Need-loop-less Inv-loop μ-loop
 loop-less c = omega (arith, c .next .ensures, c .before .before .before .before .if1 .taken)

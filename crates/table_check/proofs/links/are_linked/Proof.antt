@@ -9,10 +9,10 @@ use Rattle.table_check.proofs.links.are_linked.Statement.{statement}
 use Rattle.table_check.proofs.links.are_linked.Tie as tie
 
 abbrev Inv-loop : tie.InvT-loop
-Inv-loop text links counts next₀ i₀ next i = Walked text links (counts .links) (counts .params) (next .0) (i .0)
+Inv-loop classes text links counts next₀ i₀ next i = Walked text links (counts .links) (counts .params) (next .0) (i .0)
 
 abbrev μ-loop : tie.MeasureT-loop
-μ-loop text links counts next₀ i₀ next i = counts .links - i .0
+μ-loop classes text links counts next₀ i₀ next i = counts .links - i .0
 
 first-requires : tie.Need-first-requires Inv-loop μ-loop
 first-requires c κs = search needs
@@ -24,7 +24,7 @@ loop-holds : tie.Need-loop-holds Inv-loop μ-loop
 loop-holds c = rw (c .first2 .ensures, c .before .first .ensures) (begin _ _ _ _)
 
 link-at-requires : tie.Need-link-at-requires Inv-loop μ-loop
-link-at-requires c κs = omega (arith, c .if1 .taken, c .before .before .before .before .before .before .before .before .pre)
+link-at-requires c κs = omega (arith, c .if1 .taken, c .before .before .before .before .before .before .before .before .pre .0)
 
 sub-left : tie.Need-sub-left Inv-loop μ-loop
 sub-left c = c .before .before .before .before .before .before .loop .inv .below
@@ -52,7 +52,7 @@ next-requires : tie.Need-next-requires Inv-loop μ-loop
 next-requires c κs =
     let b1 = c .before .before .before .before .before .before .before .before .before .before .before in
     let start = b1 .before .before .before .before .before .before .before .before in
-    omega (arith, b1 .if1 .taken, start .pre)
+    omega (arith, b1 .if1 .taken, start .pre .0)
 
 loop-less : tie.Need-loop-less Inv-loop μ-loop
 loop-less c = omega (arith, c .next .ensures, c .before .before .before .before .before .before .before .before .before .before .before .before .if1 .taken)

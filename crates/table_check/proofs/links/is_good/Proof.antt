@@ -19,18 +19,20 @@ returns c =
     (λ w. no-param-room _ _ _ _ _ _ (w .1 .ensures) (ltb-true _ _ (w .3 .taken))) (c .if1 .came)
 
 are-linked-requires : tie.Need-are-linked-requires
-are-linked-requires c κs = fits (c .before .before .before .before .before .link-room .ensures) (c .before .before .before .if1 .left)
+are-linked-requires c κs = (fits (c .before .before .before .before .before .link-room .ensures) (c .before .before .before .if1 .left), search needs)
 
 returns-2 : tie.Need-returns-2
 returns-2 c = not-so (λ g. c .before .are-linked .ensures .fails (not-true _ (c .if3 .taken)) (linked-of _ _ _ _ _ _ g))
 
 are-all-good-requires : tie.Need-are-all-good-requires
-are-all-good-requires c κs =
-    record {
-      link-room = fits (c .before .before .before .before .before .before .before .link-room .ensures) (c .before .before .before .before .before .if1 .left);
-      param-room = fits (c .before .before .before .before .param-room .ensures) (ltb-false _ _ (c .before .before .if2 .left));
-      follows = c .before .are-linked .ensures .holds (not-false _ (c .if3 .left)) .follows;
-    }
+are-all-good-requires c κs = (
+  record {
+    link-room = fits (c .before .before .before .before .before .before .before .link-room .ensures) (c .before .before .before .before .before .if1 .left);
+    param-room = fits (c .before .before .before .before .param-room .ensures) (ltb-false _ _ (c .before .before .if2 .left));
+    follows = c .before .are-linked .ensures .holds (not-false _ (c .if3 .left)) .follows;
+  },
+  search needs,
+)
 
 returns-3 : tie.Need-returns-3
 returns-3 c =

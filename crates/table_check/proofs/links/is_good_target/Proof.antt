@@ -9,7 +9,7 @@ is-span-requires : tie.Need-is-span-requires
 is-span-requires c κs = search needs
 
 is-reference-requires : tie.Need-is-reference-requires
-is-reference-requires c κs = let h = c .before .is-span .ensures .holds (c .if1 .taken) in (h .ordered, h .inside)
+is-reference-requires c κs = let h = c .before .is-span .ensures .holds (c .if1 .taken) in (h .ordered, h .inside, search needs)
 
 returns : tie.Need-returns
 returns c = judged _ (c .before .before .is-span .ensures .holds (c .before .if1 .taken)) (c .is-reference .ensures)

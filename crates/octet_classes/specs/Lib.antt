@@ -1,0 +1,3 @@
+-- What the crate `octet_classes` means by its words.
+pub mod Sets
+pub mod Classes
