@@ -75,9 +75,11 @@ pub fn put_given(
     out: &mut [u8],
     at: OutPlace,
 ) -> OutPlace
-    requires { ⌜ (e .0 ≤ length (now s))
+    requires { ⌜
+        (e .0 ≤ length (now s))
         × IsGiven (given (seen escapes (now s) (e .0) (from .0)))
-        × (at .0 + length (octetsGiven (given (seen escapes (now s) (e .0) (from .0)))) ≤ length (now out)) × Classes (now classes) ⌝ }
+        × (at .0 + length (octetsGiven (given (seen escapes (now s) (e .0) (from .0)))) ≤ length (now out))
+        × Classes (now classes) ⌝ }
     ensures { λ r. ⌜
         Put (now (out .entry)) (now (out .exit)) (at .0) (r .0)
         (octetsGiven (given (seen escapes (now (s .entry)) (e .0) (from .0)))) ⌝ }

@@ -18,7 +18,7 @@ pub enum Set {
     Hex,
     Older,
     Blank,
-    Host,
+    Path,
     Ptoken,
 }
 
@@ -43,7 +43,7 @@ pub fn is_in(classes: &[u8; 256], set: Set, c: u8) -> bool
         Set::Hex => class / 16 % 2 == 1,
         Set::Older => class / 32 % 2 == 1,
         Set::Blank => class / 64 % 2 == 1,
-        Set::Host => class / 128 % 2 == 1,
+        Set::Path => class / 128 % 2 == 1,
         Set::Ptoken => (class % 2 == 1) | (class / 32 % 2 == 1),
     }
 }

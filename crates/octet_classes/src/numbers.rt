@@ -1,5 +1,5 @@
 // The class number of each octet. From the right its bits say: token, plain in a quoted string, escapable, target, hex, of the older
-// edition alone, blank, host.
+// edition alone, blank, path of a reference.
 pub const CLASSES: [u8; 256] = [
     0b0000_0000, // 0
     0b0000_0000, // 1
@@ -48,7 +48,7 @@ pub const CLASSES: [u8; 256] = [
     0b1000_1110, // ,
     0b1000_1111, // -
     0b1000_1111, // .
-    0b0010_1110, // /
+    0b1010_1110, // /
     0b1001_1111, // 0
     0b1001_1111, // 1
     0b1001_1111, // 2
@@ -59,13 +59,13 @@ pub const CLASSES: [u8; 256] = [
     0b1001_1111, // 7
     0b1001_1111, // 8
     0b1001_1111, // 9
-    0b0010_1110, // :
+    0b1010_1110, // :
     0b1000_1110, // ;
     0b0010_0110, // <
     0b1010_1110, // =
     0b0010_0110, // >
-    0b0010_1110, // ?
-    0b0010_1110, // @
+    0b1010_1110, // ?
+    0b1010_1110, // @
     0b1001_1111, // A
     0b1001_1111, // B
     0b1001_1111, // C

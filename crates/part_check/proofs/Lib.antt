@@ -1,6 +1,6 @@
--- What the proofs share: answers that decide claims, tokens, wider values, and parts made of units.
+-- What the proofs share: answers that decide claims, tokens, wider values, and the inside of quoted strings.
 pub mod Deciding
 pub mod Tokens
 pub mod WiderParts
-pub mod Units
-pub mod Onward
+pub mod PairTold
+pub mod InsideUpTo

@@ -1,3 +1,3 @@
 -- What the crate `part_check` means by its words.
 pub mod Decides
-pub mod Units
+pub mod Pairs

@@ -6,7 +6,7 @@ ghost use Rattle.grammar.specs.Grammar.{Token, Wider, Inside};
 ghost use Rattle.tables.specs.Good.{InText};
 ghost use Rattle.octet_classes.specs.Classes.{Classes};
 ghost use Rattle.part_check.specs.Decides.{Decides};
-ghost use Rattle.part_check.specs.Units.{PastUnit};
+ghost use Rattle.part_check.specs.Pairs.{PairAt};
 use cursor::Cursor;
 use kinds::Place;
 use kinds::Span;
@@ -44,35 +44,36 @@ pub fn is_wider_part(classes: &[u8; 256], edition: Edition, s: &[u8], part: Span
     (k.at.0 < e) & (c.at.0 == e)
 }
 
-// Inside a quoted string, the place behind the plain octet or backslash pair that stands at `at`, or that place itself where none does.
-fn past_unit(classes: &[u8; 256], s: &[u8], at: Place, to: Place) -> Place
+// Whether a pair of a backslash and an octet that it may stand before begins at `at` and ends before `to`, or there.
+fn is_pair(classes: &[u8; 256], s: &[u8], at: Place, to: Place) -> bool
     requires { ⌜ (at .0 < to .0) × (to .0 ≤ length (now s)) × Classes (now classes) ⌝ }
-    ensures { λ r. ⌜ PastUnit (Inside (now (s .entry))) (at .0) (to .0) (r .0) ⌝ }
+    ensures { λ r. ⌜ Decides r (PairAt (now (s .entry)) (at .0) (to .0)) ⌝ }
 {
     let i = at.0;
-    let left = to.0 - i;
-    if is_in(classes, Set::Plain, s[i]) {
-        at.next()
-    } else if s[i] == b'\\' && left >= 2 && is_in(classes, Set::Escapable, s[i + 1]) {
-        at.next().next()
-    } else {
-        at
+    if s[i] != b'\\' {
+        return false;
     }
+    if to.0 - i < 2 {
+        return false;
+    }
+    is_in(classes, Set::Escapable, s[i + 1])
 }
 
-// Whether the part is the inside of a quoted string.
+// Whether the part is the inside of a quoted string: runs of plain octets, and a pair behind each but the last.
 pub fn is_inside(classes: &[u8; 256], s: &[u8], part: Span) -> bool
     requires { ⌜ InText (now s) (part .from .0) (part .to .0) × Classes (now classes) ⌝ }
     ensures { λ r. ⌜ Decides r (Inside (now (s .entry)) (part .from .0) (part .to .0)) ⌝ }
 {
-    let mut at = part.from;
+    let from = part.from;
     let to = part.to;
-    while at.0 < to.0 {
-        let next = past_unit(classes, s, at, to);
-        if next.0 == at.0 {
+    let e = to.0;
+    let mut c = Cursor { at: from }.past_plain(classes, &s[..e]);
+    while c.at.0 < e {
+        let at = c.at;
+        if !is_pair(classes, s, at, to) {
             return false;
         }
-        at = next;
+        c = c.past_octet(s).past_octet(s).past_plain(classes, &s[..e]);
     }
     true
 }

@@ -25,6 +25,10 @@ module _ {f : ℕ → Bool} {s : List ℕ} where
       side k l m true w = p .all k l (ltb-true k b w)
       side k l m false w = q .all k (ltb-false k b w) m
 
+  -- the last of them
+  pub passed-from : {a i e : ℕ} → Passed f s a e → a ≤ i → i ≤ e → Passed f s i e
+  passed-from p l m = record { forward = m; inside = p .inside; all = λ k u v. p .all k (omega (arith, u)) v }
+
   -- one octet more
   pub passed-more : {a i : ℕ} → Passed f s a i → i < length s → f (getD s i 0) ≡ true → Passed f s a (i + 1)
   passed-more {a} {i} p h e =

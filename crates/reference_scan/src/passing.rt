@@ -40,14 +40,31 @@ pub fn past_blocks(s: &[u8], from: usize) -> usize
     i
 }
 
-// Past octets of a path or a query, block by block; what is left of the text behind the last block goes octet by octet.
+// Where a block begins that holds the octet at i or, at the text's end, the last octets before it too.
+fn block_at(i: usize, end: usize) -> usize
+    requires { ⌜ (i ≤ end) × (16 ≤ end) ⌝ }
+    ensures { λ r. ⌜ (r ≤ i) × (r + 16 ≤ end) ⌝ }
+{
+    if 16 <= end - i {
+        return i;
+    }
+    end - 16
+}
+
+// Past octets of a path or a query, block by block. Where fewer are left than a block has, the text's last block is looked at, some of
+// which is passed already; only where that tells nothing, they go octet by octet.
 fn past_path(classes: &[u8; 256], s: &[u8], from: usize) -> usize
     requires { ⌜ (from ≤ length (now s)) × Classes (now classes) ⌝ }
     ensures { λ r. ⌜ Passed isPath (now (s .entry)) from r ⌝ }
 {
     let i = past_blocks(s, from);
-    if 16 <= s.len() - i {
-        return i + count_common(s, i);
+    let end = s.len();
+    if 16 <= end {
+        let at = block_at(i, end);
+        let k = at + count_common(s, at);
+        if i <= k {
+            return k;
+        }
     }
     past_each(classes, s, i, Run::Path)
 }

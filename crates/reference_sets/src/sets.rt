@@ -20,20 +20,20 @@ pub fn is_alpha(c: u8) -> bool
     ((b'A' <= c) & (c <= b'Z')) | ((b'a' <= c) & (c <= b'z'))
 }
 
-// Userinfo, host and segments have these in common.
-pub fn is_plain(classes: &[u8; 256], c: u8) -> bool
-    requires { ⌜ Classes (now classes) ⌝ }
-    ensures { λ r. ⌜ r ≡ plain (of c) ⌝ }
-{
-    is_in(classes, Set::Host, c)
-}
-
 // An octet of a path or a query, and so of a fragment.
 pub fn is_path(classes: &[u8; 256], c: u8) -> bool
     requires { ⌜ Classes (now classes) ⌝ }
     ensures { λ r. ⌜ r ≡ isPath c ⌝ }
 {
-    is_plain(classes, c) | (c == b':') | (c == b'@') | (c == b'/') | (c == b'?')
+    is_in(classes, Set::Path, c)
+}
+
+// Userinfo, host and segments have these in common: no delimiter that stands in a path or a query.
+pub fn is_plain(classes: &[u8; 256], c: u8) -> bool
+    requires { ⌜ Classes (now classes) ⌝ }
+    ensures { λ r. ⌜ r ≡ plain (of c) ⌝ }
+{
+    is_path(classes, c) & (c != b':') & (c != b'@') & (c != b'/') & (c != b'?')
 }
 
 pub fn is_scheme(c: u8) -> bool
@@ -42,8 +42,8 @@ pub fn is_scheme(c: u8) -> bool
     is_alpha(c) | is_digit(c) | (c == b'+') | (c == b'-') | (c == b'.')
 }
 
-// The runs that keep a state: of a path, a query or a fragment; of an authority, or the host in it; its port; a scheme; a first segment that can't be
-// a scheme.
+// The runs that keep a state: of a path, a query or a fragment; of an authority, or the host in it; its port; a scheme; a first segment
+// that can't be a scheme.
 pub enum Run {
     Path,
     Host,

@@ -43,9 +43,11 @@ fn write_given(
     n: usize,
     out: &mut [u8],
 ) -> LengthAnswer
-    requires { ⌜ (e .0 ≤ length (now s))
+    requires { ⌜
+        (e .0 ≤ length (now s))
         × IsGiven (given (seen escapes (now s) (e .0) (from .0)))
-        × (n ≡ length (octetsGiven (given (seen escapes (now s) (e .0) (from .0))))) × Classes (now classes) ⌝ }
+        × (n ≡ length (octetsGiven (given (seen escapes (now s) (e .0) (from .0)))))
+        × Classes (now classes) ⌝ }
     ensures { λ r. ⌜
         InRoom (now (out .entry)) (octetsGiven (given (seen escapes (now (s .entry)) (e .0) (from .0))))
         (lengthOut (lengthNumbers r) (now (out .exit))) ⌝ }
