@@ -1,4 +1,4 @@
--- Octets that blocks are tested for, against the sets of the machine. Assumes nothing.
+-- Octets that blocks are tested for are a path's, and those of each run keep the states that it is passed in. Assumes nothing.
 use Prim.Native.Nat.{ℕ}
 use native.Mathlib.Omega.{arith}
 use mathlib.Core.Path.{_≡_, refl}
