@@ -9,10 +9,10 @@ use Rattle.octets.proofs.Octets.{both, every, every-at, agree, agreed}
 use Rattle.octet_classes.specs.Sets.{isIn}
 use Rattle.octet_classes.specs.Classes.{says, Classes}
 use Rattle.octet_classes.specs.declared.Set.{Set}
-use Rattle.octet_classes.specs.declared.Set.the-variants.{Token, Plain, Escapable, Target, Hex, Older, Blank, Path, Ptoken}
+use Rattle.octet_classes.specs.declared.Set.the-variants.{Token, Plain, Escapable, Target, Hex, Older, Blank, Ptoken}
 
 abbrev sets : List Set
-sets = Token ∷ Plain ∷ Escapable ∷ Target ∷ Hex ∷ Older ∷ Blank ∷ Path ∷ Ptoken ∷ []
+sets = Token ∷ Plain ∷ Escapable ∷ Target ∷ Hex ∷ Older ∷ Blank ∷ Ptoken ∷ []
 
 -- f holds of each set listed
 abbrev each : (Set → Bool) → List Set → Bool
@@ -32,8 +32,7 @@ of-one f e Target = at f sets e 3 (omega arith)
 of-one f e Hex = at f sets e 4 (omega arith)
 of-one f e Older = at f sets e 5 (omega arith)
 of-one f e Blank = at f sets e 6 (omega arith)
-of-one f e Path = at f sets e 7 (omega arith)
-of-one f e Ptoken = at f sets e 8 (omega arith)
+of-one f e Ptoken = at f sets e 7 (omega arith)
 
 -- the entry x of octet c agrees with each set
 abbrev pub agrees : ℕ → ℕ → Bool

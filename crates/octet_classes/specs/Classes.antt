@@ -7,7 +7,7 @@ use lib.Dec.{eqb}
 use lib.ListN.{getD}
 use Rattle.octet_classes.specs.Sets.{isIn}
 use Rattle.octet_classes.specs.declared.Set.{Set}
-use Rattle.octet_classes.specs.declared.Set.the-variants.{Token, Plain, Escapable, Target, Hex, Older, Blank, Path, Ptoken}
+use Rattle.octet_classes.specs.declared.Set.the-variants.{Token, Plain, Escapable, Target, Hex, Older, Blank, Ptoken}
 
 -- the bit that is worth w is set in a class number
 abbrev pub bit : ℕ → ℕ → Bool
@@ -22,7 +22,6 @@ says Target = bit 8
 says Hex = bit 16
 says Older = bit 32
 says Blank = bit 64
-says Path = bit 128
 says Ptoken = λ x. eqb (x % 2) 1 || bit 32 x
 
 -- each octet's entry says of each set whether the octet is in it

@@ -18,7 +18,6 @@ pub enum Set {
     Hex,
     Older,
     Blank,
-    Path,
     Ptoken,
 }
 
@@ -43,7 +42,6 @@ pub fn is_in(classes: &[u8; 256], set: Set, c: u8) -> bool
         Set::Hex => class / 16 % 2 == 1,
         Set::Older => class / 32 % 2 == 1,
         Set::Blank => class / 64 % 2 == 1,
-        Set::Path => class / 128 % 2 == 1,
         Set::Ptoken => (class % 2 == 1) | (class / 32 % 2 == 1),
     }
 }

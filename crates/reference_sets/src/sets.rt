@@ -20,12 +20,12 @@ pub fn is_alpha(c: u8) -> bool
     ((b'A' <= c) & (c <= b'Z')) | ((b'a' <= c) & (c <= b'z'))
 }
 
-// An octet of a path or a query, and so of a fragment.
+// An octet of a path or a query, and so of a fragment: what a target may hold, but none of three delimiters.
 pub fn is_path(classes: &[u8; 256], c: u8) -> bool
     requires { ⌜ Classes (now classes) ⌝ }
     ensures { λ r. ⌜ r ≡ isPath c ⌝ }
 {
-    is_in(classes, Set::Path, c)
+    is_in(classes, Set::Target, c) & (c != b'#') & (c != b'[') & (c != b']')
 }
 
 // Userinfo, host and segments have these in common: no delimiter that stands in a path or a query.

@@ -32,9 +32,6 @@ enum-told-7 c = search needs
 enum-told-8 : tie.Need-enum-told-8
 enum-told-8 c = search needs
 
-enum-told-9 : tie.Need-enum-told-9
-enum-told-9 c = search needs
-
 returns : tie.Need-returns
 returns c =
     told (c .before .before .before .pre) (c .before .before .before .args .c) (omega arith) (c .enum-told .given .1)
@@ -67,10 +64,6 @@ returns-8 : tie.Need-returns-8
 returns-8 c =
     told (c .before .before .before .pre) (c .before .before .before .args .c) (omega arith) (c .enum-told8 .given .1)
 
-returns-9 : tie.Need-returns-9
-returns-9 c =
-    told (c .before .before .before .pre) (c .before .before .before .args .c) (omega arith) (c .enum-told9 .given .1)
-
 pub is-in-spec : {M : Type 1} → statement M
 is-in-spec =
     tie.close
@@ -84,7 +77,6 @@ is-in-spec =
     enum-told-6
     enum-told-7
     enum-told-8
-    enum-told-9
     returns
     returns-2
     returns-3
@@ -92,5 +84,4 @@ is-in-spec =
     returns-5
     returns-6
     returns-7
-    returns-8
-    returns-9)
+    returns-8)
