@@ -96,6 +96,22 @@ impl ParamNumber {
     }
 }
 
+impl Counts {
+    // The number that the link behind those counted has.
+    pub fn next_link(self) -> LinkNumber
+        ensures { λ r. ⌜ r .0 ≡ self .links ⌝ }
+    {
+        LinkNumber(self.links)
+    }
+
+    // The number that the parameter behind those counted has.
+    pub fn next_param(self) -> ParamNumber
+        ensures { λ r. ⌜ r .0 ≡ self .params ⌝ }
+    {
+        ParamNumber(self.params)
+    }
+}
+
 impl Span {
     // How many octets the part has.
     pub fn len(self) -> usize

@@ -24,10 +24,13 @@ keep-append s e (x ∷ xs) ys =
     go true us vs = refl
     go false us vs = refl
 
+-- a parameter of a name kept once, and that stood among those before
+abbrev pub isAgain : List ℕ → Param → List Param → Bool
+isAgain s p qs = isOnce (nameOf s p) && among (map (nameOf s) qs) (nameOf s p)
+
 -- one parameter more, told by those before it, the last first
 pub keep-more : (s : List ℕ) (p : Param) (qs : List Param)
-    → keepAfter s [] (reverse (p ∷ qs))
-    ≡ keepAfter s [] (reverse qs) ++ unless (isOnce (nameOf s p) && among (map (nameOf s) qs) (nameOf s p)) p []
+    → keepAfter s [] (reverse (p ∷ qs)) ≡ keepAfter s [] (reverse qs) ++ unless (isAgain s p qs) p []
 keep-more s p qs =
     ap (keepAfter s []) (reverse-cons p qs) ∙ keep-append s [] (reverse qs) (p ∷ [])
     ∙ ap
@@ -35,7 +38,7 @@ keep-more s p qs =
     (map-reverseAux (nameOf s) (reverse qs) [] ∙ ap (map (nameOf s)) (reverse-reverse qs))
 
 pub kept-more : (s : List ℕ) (p : Param) (qs : List Param) {n m : ℕ} {b : Bool} → n ≡ length (keepAfter s [] (reverse qs))
-    → b ≡ (isOnce (nameOf s p) && among (map (nameOf s) qs) (nameOf s p)) → m ≡ n + cond b 0 1
+    → b ≡ isAgain s p qs → m ≡ n + cond b 0 1
     → m ≡ length (keepAfter s [] (reverse (p ∷ qs)))
 kept-more s p qs {n} {m} {b} e f g =
     g ∙ ap (λ (x : ℕ). x + cond b 0 1) e ∙ ap (λ (x : ℕ). length (keepAfter s [] (reverse qs)) + x) (sym (one b))

@@ -1,5 +1,5 @@
--- What the scans of a link's parameters, of a link and of a whole header promise.
-use Prim.Native.Nat.{ℕ, suc, _≤_}
+-- What the scans of a link's parameters, of a link and of a whole header promise, and what they note.
+use Prim.Native.Nat.{ℕ, suc, _*_, _≤_}
 use mathlib.Core.Path.{_≡_}
 use mathlib.Core.Logic.{_⊎_}
 use mathlib.Core.List.{List, [], _∷_, reverse}
@@ -9,13 +9,14 @@ use Rattle.grammar.specs.Link.{Link, Param}
 use Rattle.grammar.specs.Grammar.{Extra, At, Target}
 use Rattle.grammar.specs.Targets.{ReferenceAt, References}
 use Rattle.grammar.specs.Kept.{keepAfter, Reading}
-use Rattle.grammar.specs.Records.{countParams}
+use Rattle.grammar.specs.Records.{linkWidth, paramWidth, countParams, recordsOf, linkRecords, paramRecords}
 use Rattle.grammar.specs.Place.{MalformedAt}
 use Rattle.grammar.specs.Machine.{target, opened}
 use Rattle.kinds.specs.declared.Place.{Place}
 use Rattle.kinds.specs.declared.Counts.{Counts}
 use Rattle.cursor.specs.Passed.{Passed}
 use Rattle.cursor.specs.declared.Cursor.{Cursor}
+use Rattle.notes.specs.Noted.{Noted}
 use Rattle.scan_parts.specs.Stands.{Stands, Ready}
 use Rattle.scan_parts.specs.Parsed.{Parsed}
 use Rattle.scanner.specs.declared.link.LinkScan.{LinkScan}
@@ -38,11 +39,13 @@ pub record Params (extra : Extra) (s : List ℕ) (a j n : ℕ) : Type 0 where
   pub ends : (length s ≤ j) ⊎ At s j 44
   pub kept : n ≡ length (keepAfter s [] (reverse params))
 
-pub data ParamsScanned (extra : Extra) (s : List ℕ) (a : ℕ) : LinkScan → Type 0 where
+-- parameters from place a on; those kept are noted from number m on
+pub data ParamsScanned (extra : Extra) (s : List ℕ) (a m : ℕ) (P P′ : List ℕ) : LinkScan → Type 0 where
   no-params-here : {p : Place} → ((ls : List Link) (b k : ℕ) → Ready extra s (opened ls b k) a → ReferenceAt s b k → References s ls
       → MalformedAt extra s (p .0))
-      → ParamsScanned extra s a (NoLink p)
-  all-params : {c : Cursor} {n : ℕ} → Params extra s a (c .at .0) n → ParamsScanned extra s a (Whole c n)
+      → ParamsScanned extra s a m P P′ (NoLink p)
+  all-params : {c : Cursor} {n : ℕ} (w : Params extra s a (c .at .0) n)
+      → Noted P P′ (paramWidth * m) (recordsOf s (keepAfter s [] (reverse (w .params)))) → ParamsScanned extra s a m P P′ (Whole c n)
 
 -- a link whose target begins at place a
 pub record WholeLink (extra : Extra) (s : List ℕ) (a j n : ℕ) : Type 0 where
@@ -51,10 +54,16 @@ pub record WholeLink (extra : Extra) (s : List ℕ) (a j n : ℕ) : Type 0 where
   pub closed : At s close 62
   pub rest : Params extra s (suc close) j n
 
-pub data LinkScanned (extra : Extra) (s : List ℕ) (a : ℕ) : LinkScan → Type 0 where
+-- the record of that link was noted as link number n, those of its kept parameters from number m on
+pub record LinkNoted (extra : Extra) (s : List ℕ) {a j x : ℕ} (w : WholeLink extra s a j x) (n m : ℕ) (L L′ P P′ : List ℕ) : Type 0 where
+  pub link : Noted L L′ (linkWidth * n) (a ∷ w .close ∷ m ∷ x ∷ [])
+  pub params : Noted P P′ (paramWidth * m) (recordsOf s (keepAfter s [] (reverse (w .rest .params))))
+
+pub data LinkScanned (extra : Extra) (s : List ℕ) (a n m : ℕ) (L L′ P P′ : List ℕ) : LinkScan → Type 0 where
   no-link : {p : Place} → ((ls : List Link) → Stands extra s (target ls a) a → References s ls → MalformedAt extra s (p .0))
-      → LinkScanned extra s a (NoLink p)
-  a-link : {c : Cursor} {n : ℕ} (w : WholeLink extra s a (c .at .0) n) → ReferenceAt s a (w .close) → LinkScanned extra s a (Whole c n)
+      → LinkScanned extra s a n m L L′ P P′ (NoLink p)
+  a-link : {c : Cursor} {x : ℕ} (w : WholeLink extra s a (c .at .0) x) → ReferenceAt s a (w .close) → LinkNoted extra s w n m L L′ P P′
+      → LinkScanned extra s a n m L L′ P P′ (Whole c x)
 
 -- the counts are those of the header's reading
 pub record CountsOf (extra : Extra) (s : List ℕ) (n : Counts) : Type 0 where
@@ -63,6 +72,11 @@ pub record CountsOf (extra : Extra) (s : List ℕ) (n : Counts) : Type 0 where
   pub links : n .links ≡ length reading
   pub params : n .params ≡ countParams reading
 
-pub data HeaderScanned (extra : Extra) (s : List ℕ) : HeaderScan → Type 0 where
-  malformed-at : {p : Place} → MalformedAt extra s (p .0) → HeaderScanned extra s (Malformed p)
-  counted : {n : Counts} → CountsOf extra s n → HeaderScanned extra s (Counted n)
+-- the records of the links K were noted, from the first slots on
+pub record ReadingNoted (s : List ℕ) (K : List Link) (L L′ P P′ : List ℕ) : Type 0 where
+  pub links : Noted L L′ 0 (linkRecords 0 K)
+  pub params : Noted P P′ 0 (paramRecords s K)
+
+pub data HeaderScanned (extra : Extra) (s L L′ P P′ : List ℕ) : HeaderScan → Type 0 where
+  malformed-at : {p : Place} → MalformedAt extra s (p .0) → HeaderScanned extra s L L′ P P′ (Malformed p)
+  counted : {n : Counts} (k : CountsOf extra s n) → ReadingNoted s (k .reading) L L′ P P′ → HeaderScanned extra s L L′ P P′ (Counted n)

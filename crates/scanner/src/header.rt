@@ -9,10 +9,17 @@ use cursor::Cursor;
 use kinds::Counts;
 use octets::editions::Edition;
 
-// Judges the whole header, and counts.
-pub fn scan(classes: &[u8; 256], edition: Edition, s: &[u8]) -> HeaderScan
+// Judges the whole header, and counts and notes.
+pub fn scan(
+    classes: &[u8; 256],
+    edition: Edition,
+    s: &[u8],
+    links: &mut [u16],
+    params: &mut [u16],
+) -> HeaderScan
     requires { ⌜ Classes (now classes) ⌝ }
-    ensures { λ r. ⌜ HeaderScanned (further edition) (now (s .entry)) r ⌝ }
+    ensures { λ r. ⌜ HeaderScanned (further edition) (now (s .entry))
+        (now (links .entry)) (now (links .exit)) (now (params .entry)) (now (params .exit)) r ⌝ }
 {
     let mut c = Cursor::start();
     let mut counts = Counts {
@@ -32,7 +39,9 @@ pub fn scan(classes: &[u8; 256], edition: Edition, s: &[u8]) -> HeaderScan
             let at = i.at;
             return HeaderScan::Malformed(at);
         }
-        match past_link(classes, edition, s, i.past_octet(s)) {
+        let n = counts.next_link();
+        let m = counts.next_param();
+        match past_link(classes, edition, s, i.past_octet(s), links, n, params, m) {
             LinkScan::NoLink(p) => {
                 return HeaderScan::Malformed(p);
             }

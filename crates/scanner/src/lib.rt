@@ -1,4 +1,5 @@
-// The first pass over a header: judges it by the grammar, octet by octet, and counts its links and kept parameters.
+// The first pass over a header: judges it by the grammar, octet by octet, counts its links and kept parameters, and notes their records as
+// far as there is room for notes.
 use kinds::Counts;
 use kinds::Place;
 

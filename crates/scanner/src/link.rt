@@ -7,9 +7,15 @@ ghost use Rattle.octets.specs.Editions.{further};
 ghost use Rattle.octet_classes.specs.Classes.{Classes};
 ghost use Rattle.scanner.specs.Linked.{ParamsScanned, LinkScanned};
 use cursor::Cursor;
+use kinds::LinkNumber;
+use kinds::ParamNumber;
 use kinds::Place;
 use names::Seen;
+use notes::note_link;
+use notes::note_param;
 use octets::editions::Edition;
+use records::LinkRecord;
+use records::ParamRecord;
 use scan_parts::ParamScan;
 use scan_parts::Scan;
 use scan_parts::param::past_param;
@@ -32,10 +38,17 @@ fn counted(kept: usize, again: bool) -> usize
     kept + 1
 }
 
-// The parameters behind a link's `>`, up to a comma or the end.
-fn past_params(classes: &[u8; 256], edition: Edition, s: &[u8], from: Cursor) -> LinkScan
-    requires { ⌜ (from .at .0 ≤ length (now s)) × Classes (now classes) ⌝ }
-    ensures { λ r. ⌜ ParamsScanned (further edition) (now (s .entry)) (from .at .0) r ⌝ }
+// The parameters behind a link's `>`, up to a comma or the end. Those kept are noted, from number m on.
+fn past_params(
+    classes: &[u8; 256],
+    edition: Edition,
+    s: &[u8],
+    from: Cursor,
+    notes: &mut [u16],
+    m: ParamNumber,
+) -> LinkScan
+    requires { ⌜ (from .at .0 ≤ length (now s)) × (m .0 ≤ from .at .0) × Classes (now classes) ⌝ }
+    ensures { λ r. ⌜ ParamsScanned (further edition) (now (s .entry)) (from .at .0) (m .0) (now (notes .entry)) (now (notes .exit)) r ⌝ }
 {
     let mut c = from;
     let mut kept: usize = 0;
@@ -56,10 +69,12 @@ fn past_params(classes: &[u8; 256], edition: Edition, s: &[u8], from: Cursor) ->
             ParamScan::NoParam(p) => {
                 return LinkScan::NoLink(p);
             }
-            ParamScan::Param(r, d) => {
-                let name = r.name;
+            ParamScan::Param(parts, d) => {
+                let name = parts.name;
                 let code = names::code(s, name);
-                kept = counted(kept, seen.has(code));
+                let again = seen.has(code);
+                note_param(notes, m.plus(kept), ParamRecord { parts, code }, again);
+                kept = counted(kept, again);
                 seen = seen.with(code);
                 c = d;
             }
@@ -67,13 +82,35 @@ fn past_params(classes: &[u8; 256], edition: Edition, s: &[u8], from: Cursor) ->
     }
 }
 
-// A link, from its target on.
-pub fn past_link(classes: &[u8; 256], edition: Edition, s: &[u8], from: Cursor) -> LinkScan
-    requires { ⌜ (from .at .0 ≤ length (now s)) × Classes (now classes) ⌝ }
-    ensures { λ r. ⌜ LinkScanned (further edition) (now (s .entry)) (from .at .0) r ⌝ }
+// A link, from its target on. It is noted as link number n, and its parameters from number m on.
+pub fn past_link(
+    classes: &[u8; 256],
+    edition: Edition,
+    s: &[u8],
+    from: Cursor,
+    links: &mut [u16],
+    n: LinkNumber,
+    params: &mut [u16],
+    m: ParamNumber,
+) -> LinkScan
+    requires { ⌜ (from .at .0 ≤ length (now s)) × (m .0 ≤ from .at .0) × Classes (now classes) ⌝ }
+    ensures { λ r. ⌜ LinkScanned (further edition) (now (s .entry)) (from .at .0) (n .0) (m .0)
+        (now (links .entry)) (now (links .exit)) (now (params .entry)) (now (params .exit)) r ⌝ }
 {
     match past_target(classes, s, from) {
         Scan::Stuck(p) => LinkScan::NoLink(p),
-        Scan::Past(c) => past_params(classes, edition, s, c.past_octet(s)),
+        Scan::Past(c) => {
+            let scan = past_params(classes, edition, s, c.past_octet(s), params, m);
+            if let LinkScan::Whole(_, count) = scan {
+                let target = from.span_to(c);
+                let r = LinkRecord {
+                    target,
+                    first: m,
+                    count,
+                };
+                note_link(links, n, r);
+            }
+            scan
+        }
     }
 }

@@ -1,0 +1,3 @@
+-- Laws of notes.
+pub mod InOrder
+pub mod Mapped

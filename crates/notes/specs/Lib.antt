@@ -1,0 +1,2 @@
+-- What the crate `notes` means by its words.
+pub mod Noted
