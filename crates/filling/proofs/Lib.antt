@@ -3,3 +3,5 @@ pub mod PartOfReading
 pub mod ParamsWritten
 pub mod OneLinkWritten
 pub mod LinksWritten
+pub mod SmallRecords
+pub mod FromNotes

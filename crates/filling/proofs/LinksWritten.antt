@@ -46,11 +46,9 @@ use Rattle.scanner.proofs.BetweenLinks.{
   link-comma,
   kept-with,
 }
+use Rattle.scanner.proofs.LinksInOrder.{link-slot, param-slot, links-more, params-more}
 use Rattle.filling.specs.Filling.{ReadingFits, BeforeLink, LinkFilled, TablesFilled}
 use Rattle.filling.proofs.PartOfReading.{stands-rest, rest-alive, part-links}
-
-ordered-more : (s : List ℕ) (l : Link) (ls : List Link) → ordered s (l ∷ ls) ≡ ordered s ls ++ (keptLink s l ∷ [])
-ordered-more s l ls = ap (map (keptLink s)) (reverse-cons l ls) ∙ map-append (keptLink s) (reverse ls) (l ∷ [])
 
 -- both tables hold the records of the links ls, held last first
 pub record LinksHeld (s L₀ P₀ : List ℕ) (ls : List Link) (L P : List ℕ) : Type 0 where
@@ -171,61 +169,28 @@ module _ {extra : Extra} {s L₀ P₀ : List ℕ} (fits : ReadingFits extra s L�
             }
 
         module _ {d x : ℕ} {L′ P′ : List ℕ} (f : LinkFilled extra s k d n m x L L′ P P′) where
-          link : Link
-          link = linkOf (f .link)
-
-          kept : List Param
-          kept = keepAfter s [] (reverse (f .link .rest .params))
-
-          numbers : List ℕ
-          numbers = k ∷ f .link .close ∷ m ∷ f .count ∷ []
-
-          links-more : linkRecords 0 (ordered s (w .links)) ++ numbers ≡ linkRecords 0 (ordered s (link ∷ w .links))
-          unfolding link numbers
-          links-more =
-              let first : m ≡ 0 + countParams (ordered s (w .links)) =
-              w .param-number ∙ sym (zero-add (countParams (ordered s (w .links))) ∙ ordered-count s (w .links))
-              in
-              ap₂
-              (λ (x y : ℕ). linkRecords 0 (ordered s (w .links)) ++ (k ∷ f .link .close ∷ x ∷ y ∷ []))
-              first (f .link .rest .kept)
-              ∙ sym
-              (ap (linkRecords 0) (ordered-more s link (w .links))
-              ∙ link-records-append 0 (ordered s (w .links)) (keptLink s link ∷ []))
-
-          params-more : paramRecords s (ordered s (w .links)) ++ recordsOf s kept ≡ paramRecords s (ordered s (link ∷ w .links))
-          unfolding link kept
-          params-more =
-              ap (λ (x : List ℕ). paramRecords s (ordered s (w .links)) ++ x) (sym (append-nil (recordsOf s kept)))
-              ∙ sym
-              (ap (paramRecords s) (ordered-more s link (w .links))
-              ∙ param-records-append s (ordered s (w .links)) (keptLink s link ∷ []))
-
-          held-more : LinksHeld s L₀ P₀ (link ∷ w .links) L′ P′
-          unfolding numbers kept
+          held-more : LinksHeld s L₀ P₀ (linkOf (f .link) ∷ w .links) L′ P′
           held-more =
               let K = ordered s (w .links) in
-              let at : linkWidth * n ≡ 0 + length (linkRecords 0 K) =
-              omega (arith, link-records-length 0 K, ordered-length s (w .links), w .link-number)
-              in
-              let to : paramWidth * m ≡ 0 + length (paramRecords s K) =
-              omega (arith, param-records-length s K, ordered-count s (w .links), w .param-number)
-              in
+              let kept = recordsOf s (keepAfter s [] (reverse (f .link .rest .params))) in
+              let numbers = k ∷ f .link .close ∷ m ∷ f .count ∷ [] in
+              let at = link-slot (f .link) (w .links) (w .link-number) (w .param-number) in
+              let to = param-slot (f .link) (w .links) (w .link-number) (w .param-number) in
               record {
                 link-slots =
                     f .links-written ∙ ap₂ (λ (t : List ℕ) (g : ℕ). sets t g numbers) (w .held .link-slots) at
-                    ∙ sym (sets-append L₀ 0 (linkRecords 0 K) numbers) ∙ ap (sets L₀ 0) links-more;
+                    ∙ sym (sets-append L₀ 0 (linkRecords 0 K) numbers)
+                    ∙ ap (sets L₀ 0) (links-more (f .link) (w .links) (w .link-number) (w .param-number));
                 param-slots =
-                    f .params-written ∙ ap₂ (λ (t : List ℕ) (g : ℕ). sets t g (recordsOf s kept)) (w .held .param-slots) to
-                    ∙ sym (sets-append P₀ 0 (paramRecords s K) (recordsOf s kept)) ∙ ap (sets P₀ 0) params-more;
+                    f .params-written ∙ ap₂ (λ (t : List ℕ) (g : ℕ). sets t g kept) (w .held .param-slots) to
+                    ∙ sym (sets-append P₀ 0 (paramRecords s K) kept)
+                    ∙ ap (sets P₀ 0) (params-more (f .link) (w .links) (w .link-number) (w .param-number));
               }
 
           pub filled-behind : length s ≤ d → TablesFilled extra s L₀ L′ P₀ P′
-          unfolding link
           filled-behind e = held-filled (w .stands .apart) (linkOf (f .link) ∷ w .links) (link-last (f .link) begun e) held-more
 
           pub link-on : {v u : ℕ} → d < length s → v ≡ d + 1 → u ≡ n + 1 → LinksWritten extra s L₀ P₀ v u x L′ P′
-          unfolding link
           link-on e y z =
               record {
                 links = linkOf (f .link) ∷ w .links;
@@ -251,5 +216,4 @@ module _ {extra : Extra} {s L₀ P₀ : List ℕ} (fits : ReadingFits extra s L�
           behind-inside = let g = link-forward (f .link) in (omega (arith, g .0), g .1)
 
           pub lengths-kept : (length L′ ≡ length L₀) × (length P′ ≡ length P₀)
-          unfolding link
           lengths-kept = held-lengths held-more

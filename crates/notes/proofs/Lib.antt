@@ -1,3 +1,4 @@
 -- Laws of notes.
 pub mod InOrder
 pub mod Mapped
+pub mod Copied

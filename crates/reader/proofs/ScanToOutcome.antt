@@ -20,26 +20,30 @@ use Rattle.answers.specs.Read.{readNumbers, readOut}
 use Rattle.scanner.specs.declared.HeaderScan.{HeaderScan}
 use Rattle.scanner.specs.declared.HeaderScan.the-variants.{Malformed, Counted}
 use Rattle.scanner.specs.Linked.{CountsOf, HeaderScanned, malformed-at, counted}
-use Rattle.filling.specs.Filling.{ReadingFits, TablesFilled}
+use Rattle.filling.specs.Filling.{ReadingFits, TablesFilled, HeaderNoted}
 
 -- an answer, with what both tables hold afterwards
 abbrev out : ReadAnswer → List ℕ → List ℕ → ReadOut
 out r L P = readOut (readNumbers r) L P
 
-module _ (ed : Edition) {s : List ℕ} {r : HeaderScan} (L P : List ℕ) (short : length s ≤ limit)
-    (c : HeaderScanned (further ed) s r) where
+module _ (ed : Edition) {s N N′ M M′ : List ℕ} {r : HeaderScan} (L P : List ℕ) (short : length s ≤ limit)
+    (c : HeaderScanned (further ed) s N N′ M M′ r) where
   pub is-malformed : {p : Place} → r ≡ Malformed p → ReadIn ed s L P (out (IsMalformed p) L P)
-  is-malformed e = go (subst (HeaderScanned (further ed) s) e c)
+  is-malformed e = go (subst (HeaderScanned (further ed) s N N′ M M′) e c)
     where
-      go : {p : Place} → HeaderScanned (further ed) s (Malformed p) → ReadIn ed s L P (out (IsMalformed p) L P)
+      go : {p : Place} → HeaderScanned (further ed) s N N′ M M′ (Malformed p) → ReadIn ed s L P (out (IsMalformed p) L P)
       go (malformed-at h) = not-derived short h
 
   module _ {n : Counts} (e : r ≡ Counted n) where
-    counts : CountsOf (further ed) s n
-    counts = go (subst (HeaderScanned (further ed) s) e c)
+    -- what the scan noted
+    pub noted : HeaderNoted (further ed) s n N′ M′
+    noted = go (subst (HeaderScanned (further ed) s N N′ M M′) e c)
       where
-        go : {n : Counts} → HeaderScanned (further ed) s (Counted n) → CountsOf (further ed) s n
-        go (counted k) = k
+        go : {n : Counts} → HeaderScanned (further ed) s N N′ M M′ (Counted n) → HeaderNoted (further ed) s n N′ M′
+        go (counted k h) = record { counts = k; links-before = N; params-before = M; noted = h }
+
+    abbrev counts : CountsOf (further ed) s n
+    counts = noted .counts
 
     -- the rooms, as the code asks for them
     module _ {x : ℕ} (a : x ≡ linkRoom L) where

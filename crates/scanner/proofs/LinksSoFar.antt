@@ -52,15 +52,16 @@ pub record LinksSoFar (extra : Extra) (s : List ℕ) (i : ℕ) (n : Counts) (L L
 
 -- a header that ends with these links read has their counts, and their records are noted
 counts : (extra : Extra) (s : List ℕ) (ls : List Link) {n : Counts} {L L′ P P′ : List ℕ} → Field extra s (reverse ls) → References s ls
-    → n .links ≡ length ls → n .params ≡ countParams (map (keptLink s) ls) → ReadingNoted s (ordered s ls) L L′ P P′
+    → n .links ≡ length ls → n .params ≡ countParams (map (keptLink s) ls) → n .params ≤ length s → ReadingNoted s (ordered s ls) L L′ P P′
     → HeaderScanned extra s L L′ P P′ (Counted n)
-counts extra s ls f refs x y k =
+counts extra s ls f refs x y z k =
     counted
     (record {
       reading = ordered s ls;
       reads = record { links = reverse ls; derived = f; references = each-reversed (ReferenceAt s) ls refs; kept = refl };
       links = x ∙ sym (ordered-length s ls);
       params = y ∙ sym (ordered-count s ls);
+      few-params = z;
     })
     k
 
@@ -88,7 +89,9 @@ module _ {extra : Extra} {s : List ℕ} where
     here = gap-blanks (b .stands) p
 
     pub ended : length s ≤ j → HeaderScanned extra s L L′ P P′ (Counted n)
-    ended h = counts extra s (b .links) (finishes here h refl) (b .references) (b .link-count) (b .param-count) (b .noted)
+    ended h =
+        counts extra s (b .links) (finishes here h refl) (b .references) (b .link-count) (b .param-count)
+        (omega (arith, b .few-params, b .stands .inside)) (b .noted)
 
     pub comma : {k : ℕ} → At s j 44 → k ≡ j + 1 → LinksSoFar extra s k n L L′ P P′
     comma q e =
@@ -147,7 +150,8 @@ module _ {extra : Extra} {s : List ℕ} where
         pub link-ended : length s ≤ d .at .0 → HeaderScanned extra s L L″ P P″ (Counted (oneLinkMore n x))
         link-ended h =
             counts extra s (linkOf whole ∷ b .links) (link-last whole begun h) (reference, b .references) more-links
-            (kept-with whole begun (b .param-count)) noted-here
+            (kept-with whole begun (b .param-count))
+            (omega (arith, b .few-params, p .forward, whole-forward .0, whole-forward .1)) noted-here
 
         pub more : {t : ℕ} → d .at .0 < length s → t ≡ d .at .0 + 1 → LinksSoFar extra s t (oneLinkMore n x) L L″ P P″
         more h f =

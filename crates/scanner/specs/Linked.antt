@@ -65,12 +65,13 @@ pub data LinkScanned (extra : Extra) (s : List ℕ) (a n m : ℕ) (L L′ P P′
   a-link : {c : Cursor} {x : ℕ} (w : WholeLink extra s a (c .at .0) x) → ReferenceAt s a (w .close) → LinkNoted extra s w n m L L′ P P′
       → LinkScanned extra s a n m L L′ P P′ (Whole c x)
 
--- the counts are those of the header's reading
+-- the counts are those of the header's reading; every parameter has an octet at least
 pub record CountsOf (extra : Extra) (s : List ℕ) (n : Counts) : Type 0 where
   pub reading : List Link
   pub reads : Reading extra s reading
   pub links : n .links ≡ length reading
   pub params : n .params ≡ countParams reading
+  pub few-params : n .params ≤ length s
 
 -- the records of the links K were noted, from the first slots on
 pub record ReadingNoted (s : List ℕ) (K : List Link) (L L′ P P′ : List ℕ) : Type 0 where

@@ -10,11 +10,6 @@ use Rattle.scanner.proofs.LinksSoFar.{LinksSoFar, start, ended, comma, 
 use borrow.Author.Needs.{needs}
 use Rattle.scanner.proofs.header.scan.Statement.{statement}
 use Rattle.scanner.proofs.header.scan.Tie as tie
-use Rattle.cursor.proofs.Cursor.past_blanks.Reads as past-blanks-reads
-use Rattle.cursor.proofs.Cursor.past_octet.Reads as past-octet-reads
-use Rattle.kinds.proofs.Counts.next_link.Reads as next-link-reads
-use Rattle.kinds.proofs.Counts.next_param.Reads as next-param-reads
-use Rattle.scanner.proofs.link.past_link.Reads as past-link-reads
 
 abbrev Inv-loop : tie.InvT-loop
 Inv-loop classes edition s links₀ params₀ c₀ counts₀ links params c counts = LinksSoFar (further edition) s (c .at .0) counts links₀ links params₀ params

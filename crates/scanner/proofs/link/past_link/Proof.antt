@@ -4,11 +4,6 @@ use Rattle.scanner.proofs.ReadyBehindLink.{target-stuck, target-inside,
 use borrow.Author.Needs.{needs}
 use Rattle.scanner.proofs.link.past_link.Statement.{statement}
 use Rattle.scanner.proofs.link.past_link.Tie as tie
-use Rattle.cursor.proofs.Cursor.past_octet.Reads as past-octet-reads
-use Rattle.cursor.proofs.Cursor.span_to.Reads as span-to-reads
-use Rattle.notes.proofs.note_link.Reads as note-link-reads
-use Rattle.scan_parts.proofs.target.past_target.Reads as past-target-reads
-use Rattle.scanner.proofs.link.past_params.Reads as past-params-reads
 
 past-target-requires : tie.Need-past-target-requires
 past-target-requires c κs = search needs

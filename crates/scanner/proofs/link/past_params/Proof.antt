@@ -12,10 +12,6 @@ use Rattle.scanner.proofs.ParamsSoFar.{ParamsSoFar, begin, few-so-far, 
 use borrow.Author.Needs.{needs}
 use Rattle.scanner.proofs.link.past_params.Statement.{statement}
 use Rattle.scanner.proofs.link.past_params.Tie as tie
-use Rattle.cursor.proofs.Cursor.past_blanks.Reads as past-blanks-reads
-use Rattle.cursor.proofs.Cursor.past_octet.Reads as past-octet-reads
-use Rattle.notes.proofs.note_param.Reads as note-param-reads
-use Rattle.scan_parts.proofs.param.past_param.Reads as past-param-reads
 
 abbrev Inv-loop : tie.InvT-loop
 Inv-loop classes edition s notes₀ m c₀ kept₀ seen₀ notes c kept seen = (params : List Param) × ParamsSoFar (further edition) s (c₀ .at .0) (c .at .0) kept seen params × KeptNoted s (m .0) params notes₀ notes
