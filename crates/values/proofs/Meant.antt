@@ -38,6 +38,10 @@ module _ {s : List ℕ} {e k : ℕ} (h : k < e) (l : e ≤ length s) where
         none = λ q. let x : suc k ≡ e = omega arith in rw (slice-cons k e s 0 h l, b, x, slice-empty e s);
       })
 
+  -- as code has it, which moved on by one
+  pub behind-backslash : {p : ℕ} → getD s k 0 ≡ 92 → p ≡ k + 1 → Meant s e k p
+  behind-backslash b i = rw i (at-backslash b)
+
 -- one octet less is left behind the octet meant, and with none nothing is left
 module _ {s : List ℕ} {e k p : ℕ} (m : Meant s e k p) where
   pub octet-step : p < e → rest s e k ≡ getD s p 0 ∷ rest s e (p + 1)

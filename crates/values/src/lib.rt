@@ -1,5 +1,5 @@
 // What a part of a text means: each backslash with the octet behind it is read as that octet. Nothing is copied to look at it, and
-// each octet is looked at once.
+// each octet is looked at once. Loops branch at a backslash, so that no octet's place has to wait for the octet before it to be read.
 ghost use mathlib.Core.Path.{_≡_};
 ghost use Prim.Native.Nat.{_+_, _≤_, _<_};
 ghost use lib.ListN.{length};
@@ -28,12 +28,15 @@ pub fn meaning_len(s: &[u8], part: Span) -> usize
     let mut n = 0;
     let mut k = part.from;
     while k.0 < e.0 {
-        let p = meant_at(s, k, e);
-        if p.0 >= e.0 {
-            return n;
+        let i = k.0;
+        if s[i] == b'\\' {
+            k = k.next();
+            if k.0 >= e.0 {
+                return n;
+            }
         }
         n += 1;
-        k = p.next();
+        k = k.next();
     }
     n
 }
@@ -50,9 +53,13 @@ pub fn copy_meaning(s: &[u8], part: Span, out: &mut [u8], at: OutPlace) -> OutPl
     let mut to = at;
     let mut k = part.from;
     while k.0 < e.0 {
-        let p = meant_at(s, k, e);
-        if p.0 >= e.0 {
-            return to;
+        let here = k.0;
+        let mut p = k;
+        if s[here] == b'\\' {
+            p = k.next();
+            if p.0 >= e.0 {
+                return to;
+            }
         }
         let i = to.0;
         let j = p.0;

@@ -1,7 +1,6 @@
 -- A backslash sends on to the octet behind it, and any other octet stands for itself.
-use mathlib.Core.Path.{sym}
 use borrow.Author.Needs.{needs}
-use Rattle.values.proofs.Meant.{at-plain, at-backslash}
+use Rattle.values.proofs.Meant.{at-plain, behind-backslash}
 use Rattle.values.proofs.meant_at.Statement.{statement}
 use Rattle.values.proofs.meant_at.Tie as tie
 
@@ -13,8 +12,8 @@ next-requires c κs = search needs
 
 returns : tie.Need-returns
 returns c =
-    rw (c .next .ensures)
-    (at-backslash (c .before .before .before .before .pre .0) (c .before .before .before .before .pre .1) (c .before .if1 .taken))
+    let pre′ = c .before .before .before .before .pre in
+    behind-backslash (pre′ .0) (pre′ .1) (c .before .if1 .taken) (c .next .ensures)
 
 returns-2 : tie.Need-returns-2
 returns-2 c = at-plain (c .before .before .before .pre .0) (c .before .before .before .pre .1) (c .if1 .left)
