@@ -10,7 +10,6 @@ use crate::put;
 use crate::put_two;
 use kinds::OutPlace;
 use kinds::Span;
-use values::meant_at;
 
 // An octet, with a backslash where it needs one.
 fn put_quoted(out: &mut [u8], at: OutPlace, c: u8) -> OutPlace
@@ -23,7 +22,7 @@ fn put_quoted(out: &mut [u8], at: OutPlace, c: u8) -> OutPlace
     put(out, at, c)
 }
 
-// What the part means, with backslashes before `"` and `\` only.
+// What the part means, with backslashes before `"` and `\` only. The loop branches at a backslash, as those of `values` do.
 pub fn put_escaped(s: &[u8], part: Span, out: &mut [u8], at: OutPlace) -> OutPlace
     requires { ⌜ InText (now s) (part .from .0) (part .to .0) ⌝ }
     requires { ⌜ at .0 + length (escape (rest (now s) (part .to .0) (part .from .0))) ≤ length (now out) ⌝ }
@@ -34,9 +33,13 @@ pub fn put_escaped(s: &[u8], part: Span, out: &mut [u8], at: OutPlace) -> OutPla
     let mut to = at;
     let mut k = part.from;
     while k.0 < e.0 {
-        let p = meant_at(s, k, e);
-        if p.0 >= e.0 {
-            return to;
+        let here = k.0;
+        let mut p = k;
+        if s[here] == b'\\' {
+            p = k.next();
+            if p.0 >= e.0 {
+                return to;
+            }
         }
         let i = p.0;
         to = put_quoted(out, to, s[i]);

@@ -1,9 +1,12 @@
 -- What is left of the meaning is put octet by octet.
-use Prim.Native.Nat.{_-_}
+use Prim.Native.Nat.{_-_, _<_}
 use native.Mathlib.Omega.{arith}
 use mathlib.Core.List.{[]}
+use mathlib.Core.Logic.{⊎-elim}
 use lib.ListN.{getD}
 use Rattle.tables.specs.Written.{escapeOctet}
+use Rattle.values.specs.Rest.{Meant}
+use Rattle.values.proofs.Meant.{at-plain, behind-backslash}
 use Rattle.putting.proofs.PutUpTo.{PutUpTo, start as begun, slots, steps, ended}
 use Rattle.putting.proofs.Escapes.{escapedPart, escaped-next, escaped-none, escaped-end}
 use Rattle.putting.proofs.escaped.put_escaped.Statement.{statement}
@@ -22,59 +25,75 @@ loop-holds c =
     begun (escapedPart (start .args .s .now) (start .args .part .to .0)) (start .args .part .to .0) (start .args .out .now)
     (start .args .at .0) (start .args .part .from .0) (start .pre .0 .ordered) (start .pre .1)
 
-meant-at-requires : tie.Need-meant-at-requires Inv-loop μ-loop
-meant-at-requires c κs =
-    let start = c .before .before .before .before .before .before .before .before in
-    (c .if1 .taken, start .pre .0 .inside)
+shared-slice-read-if2 : tie.Need-shared-slice-read-if2 Inv-loop μ-loop
+shared-slice-read-if2 c =
+    let start = c .before .before .before .before .before .before .before .before .before in
+    omega (arith, c .before .if1 .taken, start .pre .0 .inside)
+
+next-requires : tie.Need-next-requires Inv-loop μ-loop
+next-requires c κs =
+    let start = c .before .before .before .before .before .before .before .before .before .before in
+    omega (arith, c .before .before .if1 .taken, start .pre .0 .inside)
 
 same-length : tie.Need-same-length Inv-loop μ-loop
 same-length c =
-    let loop′ = c .before .before .before .before .before .before .before .loop in
+    let loop′ = c .before .before .before .before .before .before .before .before .before .loop in
     loop′ .inv .put .lengths
 
 returns : tie.Need-returns Inv-loop μ-loop
 returns c =
-    let loop′ = c .before .before .before .before .before .before .before .loop in
-    ended (loop′ .inv) (escaped-none (c .before .before .before .meant-at .ensures) (c .if2 .taken))
+    let b1 = c .before .before .before .before .before .before in
+    let start = b1 .before .before .before .before .before .before .before .before in
+    let backslash = c .before .before .before .before .if2 .taken in
+    let lone = behind-backslash (b1 .if1 .taken) (start .pre .0 .inside) backslash (c .before .before .before .next .ensures) in
+    ended (b1 .before .before .before .loop .inv) (escaped-none lone (c .if3 .taken))
+
+-- where the branch's ways meet, the octet meant stands at p
+meant : (c : tie.Joined2 Inv-loop μ-loop)
+    → let start = c .before .before .before .before .before .before .before .before .before .before in
+    let loop′ = c .before .before .before .before .before .loop in
+    Meant (start .args .s .now) (start .args .part .to .0) (loop′ .k .0) (c .if2 .p .0) × (c .if2 .p .0 < start .args .part .to .0)
+meant c =
+    let start = c .before .before .before .before .before .before .before .before .before .before in
+    let h = c .before .before .if1 .taken in
+    let l = start .pre .0 .inside in
+    ⊎-elim (λ w. rw (w .5) (behind-backslash h l (w .0 .taken) (w .1 .ensures), w .4 .left))
+    (λ w. rw (w .1) (at-plain h l (w .0 .left), h)) (c .if2 .came)
 
 shared-slice-read-put-quoted : tie.Need-shared-slice-read-put-quoted Inv-loop μ-loop
 shared-slice-read-put-quoted c =
-    let earlier = c .before .before .before .before .before .before .before .before .before .before in
-    let start = earlier .before .before .before .before in
-    omega (arith, c .before .before .if2 .left, start .pre .0 .inside)
+    let start = c .before .before .before .before .before .before .before .before .before .before .before .before in
+    omega (arith, meant (c .before .before) .1, start .pre .0 .inside)
 
 put-quoted-requires : tie.Need-put-quoted-requires Inv-loop μ-loop
 put-quoted-requires c κs =
-    let earlier = c .before .before .before .before .before .before .before .before .before .before in
-    let start = earlier .before .before .before .before in
-    let meant-at′ = c .before .before .before .before .before .meant-at in
-    let loop′ = c .before .before .before .before .before .before .before .before .before .loop in
-    let octets = escapeOctet (getD (start .args .s .now) (meant-at′ .result .0) 0) [] in
-    slots (loop′ .inv) octets (meant-at′ .result .0) (escaped-next (meant-at′ .ensures) (c .before .before .if2 .left))
+    let b2 = c .before .before in
+    let start = b2 .before .before .before .before .before .before .before .before .before .before in
+    let m = meant b2 in
+    let octets = escapeOctet (getD (start .args .s .now) (b2 .if2 .p .0) 0) [] in
+    slots (b2 .before .before .before .before .before .loop .inv) octets (b2 .if2 .p .0) (escaped-next (m .0) (m .1))
 
-next-requires : tie.Need-next-requires Inv-loop μ-loop
-next-requires c κs =
-    let earlier = c .before .before .before .before .before .before .before .before .before .before in
-    let start = earlier .before .before .before .before .before .before .before in
-    omega (arith, c .before .before .before .before .before .if2 .left, start .pre .0 .inside)
+next-requires-2 : tie.Need-next-requires-2 Inv-loop μ-loop
+next-requires-2 c κs =
+    let b2 = c .before .before .before .before .before in
+    let start = b2 .before .before .before .before .before .before .before .before .before .before in
+    omega (arith, meant b2 .1, start .pre .0 .inside)
 
 loop-less : tie.Need-loop-less Inv-loop μ-loop
 loop-less c =
-    let meant-at′ = c .before .before .before .before .before .before .before .before .before .meant-at in
-    let if1′ = c .before .before .before .before .before .before .before .before .before .before .if1 in
-    omega (arith, meant-at′ .ensures .from, if1′ .taken, c .next .ensures)
+    let b2 = c .before .before .before .before .before .before in
+    omega (arith, meant b2 .0 .from, b2 .before .before .if1 .taken, c .next2 .ensures)
 
 loop-again : tie.Need-loop-again Inv-loop μ-loop
 loop-again c =
-    let earlier = c .before .before .before .before .before .before .before .before .before .before in
-    let start = earlier .before .before .before .before .before .before .before .before in
-    let meant-at′ = c .before .before .before .before .before .before .before .before .before .meant-at in
-    let if2′ = c .before .before .before .before .before .before .if2 in
-    let loop′ = earlier .before .before .before .loop in
+    let b2 = c .before .before .before .before .before .before in
+    let start = b2 .before .before .before .before .before .before .before .before .before .before in
+    let m = meant b2 in
+    let octets = escapeOctet (getD (start .args .s .now) (b2 .if2 .p .0) 0) [] in
+    let loop′ = b2 .before .before .before .before .before .loop in
     let put-quoted′ = c .before .before .before .put-quoted in
-    let octets = escapeOctet (getD (start .args .s .now) (meant-at′ .result .0) 0) [] in
-    let next-one = escaped-next (meant-at′ .ensures) (if2′ .left) in
-    rw (c .next .ensures) (steps (loop′ .inv) octets (meant-at′ .result .0) next-one (if2′ .left) (put-quoted′ .ensures))
+    rw (c .next2 .ensures)
+    (steps (loop′ .inv) octets (b2 .if2 .p .0) (escaped-next (m .0) (m .1)) (m .1) (put-quoted′ .ensures))
 
 same-length-2 : tie.Need-same-length-2 Inv-loop μ-loop
 same-length-2 c = c .before .before .before .loop .inv .put .lengths
@@ -91,12 +110,13 @@ put-escaped-spec =
     Inv-loop
     μ-loop
     loop-holds
-    meant-at-requires
+    shared-slice-read-if2
+    next-requires
     same-length
     returns
     shared-slice-read-put-quoted
     put-quoted-requires
-    next-requires
+    next-requires-2
     loop-less
     loop-again
     same-length-2
