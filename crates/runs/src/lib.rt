@@ -1,4 +1,4 @@
-// The runs parted by SP in what a part of a text means, one after another.
+// The runs parted by SP in what a part of a text means, one after another. Loops branch at a backslash, as those of `values` do.
 ghost use mathlib.Core.Path.{_≡_};
 ghost use mathlib.Core.Bool.{not};
 ghost use Prim.Native.Nat.{_≤_, _<_};
@@ -10,7 +10,6 @@ ghost use Rattle.runs.specs.Runs.{isNone, AtRun, Skipped, NextRun, Match
 use folding::same_octet;
 use kinds::Place;
 use kinds::Span;
-use values::meant_at;
 
 // Where the SPs end that are meant from place `from` on, or, where `spaces` is false, the octets other than SP.
 fn skip(s: &[u8], from: Place, e: Place, spaces: bool) -> Place
@@ -19,9 +18,13 @@ fn skip(s: &[u8], from: Place, e: Place, spaces: bool) -> Place
 {
     let mut k = from;
     while k.0 < e.0 {
-        let p = meant_at(s, k, e);
-        if p.0 >= e.0 {
-            return e;
+        let here = k.0;
+        let mut p = k;
+        if s[here] == b'\\' {
+            p = k.next();
+            if p.0 >= e.0 {
+                return e;
+            }
         }
         let at = p.0;
         if (s[at] == b' ') != spaces {
@@ -61,12 +64,16 @@ pub fn match_run(s: &[u8], from: Place, e: Place, q: &[u8]) -> RunMatch
     let mut i = 0;
     let mut k = from;
     while k.0 < e.0 {
-        let p = meant_at(s, k, e);
-        if p.0 >= e.0 {
-            return RunMatch {
-                same: i == q.len(),
-                next: e,
-            };
+        let h = k.0;
+        let mut p = k;
+        if s[h] == b'\\' {
+            p = k.next();
+            if p.0 >= e.0 {
+                return RunMatch {
+                    same: i == q.len(),
+                    next: e,
+                };
+            }
         }
         let j = p.0;
         let c = s[j];
@@ -76,14 +83,15 @@ pub fn match_run(s: &[u8], from: Place, e: Place, q: &[u8]) -> RunMatch
                 next: k,
             };
         }
+        let after = p.next();
         if !agrees(q, i, c) {
             return RunMatch {
                 same: false,
-                next: skip(s, p.next(), e, false),
+                next: skip(s, after, e, false),
             };
         }
         i += 1;
-        k = p.next();
+        k = after;
     }
     RunMatch {
         same: i == q.len(),
