@@ -22,23 +22,27 @@ use Rattle.tables.specs.Meaning.{valueOf}
 use Rattle.shape.specs.Forms.{paramForm, paramsLeft, linkForm, parting, linksLeft, GoodRun}
 use Rattle.shape.proofs.LeftToWrite.{params-end, params-next, whole-run, links-end, links-next, whole-form}
 use Rattle.shape.proofs.GoodRecords.{target-span}
-use Rattle.measuring.specs.Measured.{Measured}
-use Rattle.measuring.proofs.FormLengths.{value-bound, param-length, link-length}
+use Rattle.measuring.specs.Measured.{Covers, Bounds}
+use Rattle.measuring.proofs.FormLengths.{param-length, link-length}
 
 -- ---- over parameters, up to number `end`: of `total` octets, n are counted at number p
 
-pub record ParamsMeasured (s P : List ℕ) (total end n p : ℕ) : Type 0 where
+pub record ParamsMeasured (b : Bool) (s P : List ℕ) (total end n p : ℕ) : Type 0 where
   pub run : GoodRun s P p end
   pub short : length s ≤ limit
-  pub whole : total ≡ n + length (paramsLeft s P end p)
+  pub whole : Covers b total (n + length (paramsLeft s P end p))
 
-module _ {s P : List ℕ} {total end n p : ℕ} (w : ParamsMeasured s P total end n p) where
-  pub all-measured : end ≤ p → Measured total n
+module _ {b : Bool} {s P : List ℕ} {total end n p : ℕ} (w : ParamsMeasured b s P total end n p) where
+  pub all-measured : end ≤ p → Bounds b total n
   all-measured l =
-      record { exact = λ _. omega (arith, w .whole, ap length (params-end s P l)); over = λ h. omega (arith, w .whole) }
+      let none = ap length (params-end s P l) in
+      record {
+        within = λ _. record { enough = omega (arith, w .whole .enough, none); same = λ e. omega (arith, w .whole .same e, none) };
+        over = λ e h. omega (arith, w .whole .same e);
+      }
 
-  pub over-limit : limit < n → Measured total n
-  over-limit l = record { exact = λ h. absurd (omega arith); over = λ h. omega (arith, w .whole) }
+  pub over-limit : limit < n → Bounds b total n
+  over-limit l = record { within = λ h. absurd (omega arith); over = λ e h. omega (arith, w .whole .same e) }
 
   -- the parameter at p, and how many octets its name and its value take
   module _ (l : p < end) {r : ParamParts} (is : toParam r ≡ paramAt P p) where
@@ -48,18 +52,24 @@ module _ {s P : List ℕ} {total end n p : ℕ} (w : ParamsMeasured s P total en
     left : length (paramsLeft s P end p) ≡ length (paramForm s (toParam r)) + length (paramsLeft s P end (suc p))
     left = ap length (params-next s P l is) ∙ length-append (paramForm s (toParam r)) (paramsLeft s P end (suc p))
 
-    module _ {m q : ℕ} (g : m ≡ r .name .to .0 - r .name .from .0) (h : q ≡ length (writtenValue (valueOf s (toParam r)))) where
+    module _ {m q : ℕ} (g : m ≡ r .name .to .0 - r .name .from .0)
+        (h : Covers b (length (writtenValue (valueOf s (toParam r)))) q × (q ≤ limit + 2)) where
       -- it adds too little to wrap
-      pub added : m + q + 3 ≤ 3 * limit + 5
-      added = omega (arith, good-here .name-span .inside, g, h, value-bound good-here, w .short)
+      pub added : m + q + 3 ≤ 2 * limit + 5
+      added = omega (arith, good-here .name-span .inside, g, h .1, w .short)
 
-      pub measure-more : ParamsMeasured s P total end (n + (m + q + 3)) (p + 1)
+      pub measure-more : ParamsMeasured b s P total end (n + (m + q + 3)) (p + 1)
       measure-more =
+          let one = param-length good-here in
           rw (add-one p)
           (record {
             run = record { ordered = l; room = w .run .room; good = λ j i k. w .run .good j (omega arith) k };
             short = w .short;
-            whole = omega (arith, w .whole, left, param-length good-here, g, h);
+            whole =
+                record {
+                  enough = omega (arith, w .whole .enough, left, one, g, h .0 .enough);
+                  same = λ e. omega (arith, w .whole .same e, left, one, g, h .0 .same e);
+                };
           })
 
 -- ---- over links: at number i, n octets are counted, or more than the limit
@@ -67,27 +77,35 @@ module _ {s P : List ℕ} {total end n p : ℕ} (w : ParamsMeasured s P total en
 abbrev leftOf : Table → ℕ → List ℕ
 leftOf t i = linksLeft (t .text) (t .linkSlots) (t .paramSlots) (t .linkCount) i
 
-pub record LinksMeasured (t : Table) (n i : ℕ) : Type 0 where
+pub record LinksMeasured (b : Bool) (t : Table) (n i : ℕ) : Type 0 where
   pub inside : i ≤ t .linkCount
-  pub exact : n ≤ limit → length (writtenForm t) ≡ n + length (leftOf t i)
-  pub over : limit < n → limit < length (writtenForm t)
+  pub within : n ≤ limit → Covers b (length (writtenForm t)) (n + length (leftOf t i))
+  pub over : b ≡ true → limit < n → limit < length (writtenForm t)
 
 parting-bound : (first : Bool) → length (parting first) ≤ 2
 parting-bound true = omega arith
 parting-bound false = omega arith
 
-pub form-begin : (t : Table) → LinksMeasured t 0 0
-form-begin t =
-    record { inside = omega arith; exact = λ _. omega (arith, ap length (whole-form t)); over = λ h. absurd (omega arith) }
+pub form-begin : (b : Bool) (t : Table) → LinksMeasured b t 0 0
+form-begin b t =
+    let whole = ap length (whole-form t) in
+    record {
+      inside = omega arith;
+      within = λ _. record { enough = omega (arith, whole); same = λ e. omega (arith, whole) };
+      over = λ e h. absurd (omega arith);
+    }
 
-module _ {t : Table} {n i : ℕ} (w : LinksMeasured t n i) where
-  pub form-end : t .linkCount ≤ i → Measured (length (writtenForm t)) n
+module _ {b : Bool} {t : Table} {n i : ℕ} (w : LinksMeasured b t n i) where
+  pub form-end : t .linkCount ≤ i → Bounds b (length (writtenForm t)) n
   form-end l =
       let none = ap length (links-end (t .text) (t .linkSlots) (t .paramSlots) (t .linkCount) l) in
-      record { exact = λ h. omega (arith, w .exact h, none); over = w .over }
+      record {
+        within = λ h. record { enough = omega (arith, w .within h .enough, none); same = λ e. omega (arith, w .within h .same e, none) };
+        over = w .over;
+      }
 
-  pub form-over : limit < n → Measured (length (writtenForm t)) n
-  form-over l = record { exact = λ h. absurd (omega arith); over = w .over }
+  pub form-over : limit < n → Bounds b (length (writtenForm t)) n
+  form-over l = record { within = λ h. absurd (omega arith); over = w .over }
 
   -- the link at i, parted from the one before it by x octets, with a target of y
   module _ (u : Usable Rfc5988 t) (l : i < t .linkCount) {r : LinkRecord} (is : IsLink (t .linkSlots) i r) {x y : ℕ}
@@ -104,15 +122,26 @@ module _ {t : Table} {n i : ℕ} (w : LinksMeasured t n i) where
         ∙ length-append (parting (eqb i 0)) (one ++ leftOf t (suc i))
         ∙ ap (λ k. length (parting (eqb i 0)) + k) (length-append one (leftOf t (suc i)))
 
-    pub form-more : n ≤ limit → {m : ℕ}
-        → Measured (n + x + (y + 2) + length (paramsLeft (t .text) (t .paramSlots) (r .first .0 + r .count) (r .first .0))) m
-        → LinksMeasured t m (i + 1)
-    form-more h {m} d =
+    -- with the parameters, what is left gets less by as much
+    link-left : length (leftOf t i)
+        ≡ x + (y + 2) + length (paramsLeft (t .text) (t .paramSlots) (r .first .0 + r .count) (r .first .0)) + length (leftOf t (suc i))
+    link-left =
         let params = ap length (whole-run (t .text) (t .paramSlots) (r .first .0) (r .count)) in
         let link = link-length (t .text) (t .paramSlots) r (target-span (u .good) l is) in
+        omega (arith, form-left, link, params, part, target)
+
+    pub form-more : n ≤ limit → {m : ℕ}
+        → Bounds b (n + x + (y + 2) + length (paramsLeft (t .text) (t .paramSlots) (r .first .0 + r .count) (r .first .0))) m
+        → LinksMeasured b t m (i + 1)
+    form-more h {m} d =
         rw (add-one i)
         (record {
           inside = l;
-          exact = λ k. omega (arith, w .exact h, form-left, link, params, part, target, d .exact k);
-          over = λ k. omega (arith, w .exact h, form-left, link, params, part, target, d .over k);
+          within =
+              λ k.
+              record {
+                enough = omega (arith, w .within h .enough, link-left, d .within k .enough);
+                same = λ e. omega (arith, w .within h .same e, link-left, d .within k .same e);
+              };
+          over = λ e k. omega (arith, w .within h .same e, link-left, d .over e k);
         })

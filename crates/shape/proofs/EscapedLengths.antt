@@ -6,10 +6,9 @@ use mathlib.Core.Bool.{Bool, true, false, _||_}
 use mathlib.Core.List.{List, [], _∷_}
 use lib.Dec.{eqb}
 use lib.ListN.{length}
-use Rattle.octets.specs.Sets.{all, isToken}
+use Rattle.octets.specs.Sets.{all}
 use Rattle.octets.proofs.Octets.{both}
-use Rattle.octets.proofs.Laws.{token-plain}
-use Rattle.grammar.proofs.Classes.{token-not-quote, plain-not-backslash}
+use Rattle.octets.proofs.Laws.{not-eqb}
 use Rattle.tables.specs.Written.{escapeOctet, escape}
 use Rattle.shape.specs.Shape.{escapedLen}
 
@@ -30,9 +29,9 @@ escaped-bounds c = go (eqb c 34 || eqb c 92) refl
 pub at-most-two : (c : ℕ) {x : ℕ} → x ≡ escapedLen c → x ≤ 2
 at-most-two c e = omega (arith, e, escaped-bounds c)
 
--- no octet of a token gets a backslash
-pub escape-token : (v : List ℕ) → all isToken v ≡ true → escape v ≡ v
-escape-token [] h = refl
-escape-token (c ∷ v) h =
-    let b = both (isToken c) (all isToken v) h in
-    rw (token-not-quote c (b .0), plain-not-backslash c (token-plain c (b .0)), escape-token v (b .1))
+-- where a set holds neither `"` nor a backslash, no octet of a text of that set gets a backslash
+pub escape-clear : (f : ℕ → Bool) → f 34 ≡ false → f 92 ≡ false → (v : List ℕ) → all f v ≡ true → escape v ≡ v
+escape-clear f q b [] h = refl
+escape-clear f q b (c ∷ v) h =
+    let both′ = both (f c) (all f v) h in
+    rw (not-eqb f 34 c q (both′ .0), not-eqb f 92 c b (both′ .0), escape-clear f q b v (both′ .1))

@@ -1,2 +1,3 @@
 -- What the crate `writer` means by its words.
 pub mod Related
+pub mod Room

@@ -1,21 +1,21 @@
-// Writes a table in its written form. Relations are asked of every link, the form is measured, the limit and the room are tested,
-// and then it is written; so a refusal leaves the buffer as it was.
+// Writes a table in its written form. Relations are asked of every link, then whether the form fits the limit and the room, and then it
+// is written; so a refusal leaves the buffer as it was.
 ghost use Rattle.octets.specs.declared.editions.Edition.the-variants.{Rfc5988};
 ghost use Rattle.answers.specs.Length.{lengthNumbers, lengthOut};
 ghost use Rattle.outcomes.specs.Usable.{Usable};
 ghost use Rattle.outcomes.specs.Write.{Wrote, Write};
 ghost use Rattle.tables.specs.Table.{tableOf};
 ghost use Rattle.octet_classes.specs.Classes.{Classes};
-use answers::LIMIT;
 use answers::Refusal;
 use answers::length_answer::LengthAnswer;
 use kinds::Counts;
 use link_forms::put_links;
-use measuring::form_len;
+use room::Fit;
 use table_check::TableState;
 use table_check::state_of;
 
 mod related;
+mod room;
 
 // Writes a table that may be used. The older edition stands for all: what is good in any of them is good in it.
 fn write_table(
@@ -33,15 +33,15 @@ fn write_table(
     if !related::all_related(text, links, params, counts) {
         return LengthAnswer::Refused(Refusal::NoRelation);
     }
-    let n = form_len(classes, text, links, params, counts);
-    if n > LIMIT {
-        return LengthAnswer::Refused(Refusal::TooLong);
+    let fit = room::fit_of(classes, text, links, params, counts, out.len());
+    match fit {
+        Fit::OverLimit => LengthAnswer::Refused(Refusal::TooLong),
+        Fit::OverRoom => LengthAnswer::Refused(Refusal::NoOutputRoom),
+        Fit::Fits => {
+            let end = put_links(classes, text, links, params, counts, out);
+            LengthAnswer::Wrote(end.0)
+        }
     }
-    if n > out.len() {
-        return LengthAnswer::Refused(Refusal::NoOutputRoom);
-    }
-    put_links(classes, text, links, params, counts, out);
-    LengthAnswer::Wrote(n)
 }
 
 // Writes the table's written form, and answers its length.

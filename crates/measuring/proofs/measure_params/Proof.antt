@@ -8,20 +8,20 @@ use borrow.Author.Needs.{needs}
 use Rattle.outcomes.specs.Number.{limit}
 use Rattle.shape.specs.Forms.{paramsLeft}
 use Rattle.measuring.proofs.MeasuredUpTo.{ParamsMeasured, all-measured, over-limit, good-here, added, measure-more}
-use Rattle.measuring.proofs.params_len.Statement.{statement}
-use Rattle.measuring.proofs.params_len.Tie as tie
+use Rattle.measuring.proofs.measure_params.Statement.{statement}
+use Rattle.measuring.proofs.measure_params.Tie as tie
 
 abbrev Inv-loop : tie.InvT-loop
-Inv-loop classes text params end before n₀ p₀ n p =
-    ParamsMeasured text params (before + length (paramsLeft text params (end .0) (p₀ .0))) (end .0) n (p .0)
+Inv-loop classes text params end before exact n₀ p₀ n p =
+    ParamsMeasured exact text params (before + length (paramsLeft text params (end .0) (p₀ .0))) (end .0) n (p .0)
 
 abbrev μ-loop : tie.MeasureT-loop
-μ-loop classes text params end before n₀ p₀ n p = end .0 - p .0
+μ-loop classes text params end before exact n₀ p₀ n p = end .0 - p .0
 
 loop-holds : tie.Need-loop-holds Inv-loop μ-loop
 loop-holds c =
     let start = c .before .before in
-    record { run = start .pre .0; short = start .pre .1 .0; whole = refl }
+    record { run = start .pre .0; short = start .pre .1 .0; whole = record { enough = omega arith; same = λ _. refl } }
 
 parts-at-requires : tie.Need-parts-at-requires Inv-loop μ-loop
 parts-at-requires c κs = omega (arith, c .before .before .before .before .loop .inv .run .room, c .before .if1 .taken)
@@ -31,8 +31,8 @@ len-requires c κs =
     let loop′ = c .before .before .before .before .before .loop in
     good-here (loop′ .inv) (c .before .before .if1 .taken) (c .parts-at .ensures) .name-span .ordered
 
-value-len-requires : tie.Need-value-len-requires Inv-loop μ-loop
-value-len-requires c κs = let loop′ = c .before .before .before .before .before .before .loop in
+measure-value-requires : tie.Need-measure-value-requires Inv-loop μ-loop
+measure-value-requires c κs = let loop′ = c .before .before .before .before .before .before .loop in
     let if1′ = c .before .before .before .if1 in
     (good-here (loop′ .inv) (if1′ .taken) (c .before .parts-at .ensures), (loop′ .inv .short, search needs))
 
@@ -42,7 +42,7 @@ add-n c =
     let if1′ = c .before .before .before .before .if1 in
     let parts-at′ = c .before .before .parts-at in
     let len′ = c .before .len in
-    omega (arith, added (loop′ .inv) (if1′ .taken) (parts-at′ .ensures) (len′ .ensures) (c .value-len .ensures))
+    omega (arith, added (loop′ .inv) (if1′ .taken) (parts-at′ .ensures) (len′ .ensures) (c .measure-value .ensures))
 
 add-n-2 : tie.Need-add-n-2 Inv-loop μ-loop
 add-n-2 c =
@@ -50,7 +50,7 @@ add-n-2 c =
     let if1′ = c .before .before .before .before .if1 in
     let parts-at′ = c .before .before .parts-at in
     let len′ = c .before .len in
-    omega (arith, added (loop′ .inv) (if1′ .taken) (parts-at′ .ensures) (len′ .ensures) (c .value-len .ensures))
+    omega (arith, added (loop′ .inv) (if1′ .taken) (parts-at′ .ensures) (len′ .ensures) (c .measure-value .ensures))
 
 add-n-3 : tie.Need-add-n-3 Inv-loop μ-loop
 add-n-3 c =
@@ -59,7 +59,7 @@ add-n-3 c =
     let parts-at′ = c .before .before .parts-at in
     let len′ = c .before .len in
     let if2′ = c .before .before .before .if2 in
-    let few = added (loop′ .inv) (if1′ .taken) (parts-at′ .ensures) (len′ .ensures) (c .value-len .ensures) in
+    let few = added (loop′ .inv) (if1′ .taken) (parts-at′ .ensures) (len′ .ensures) (c .measure-value .ensures) in
     omega (arith, few, leb-true (loop′ .n) limit (if2′ .taken))
 
 next-requires : tie.Need-next-requires Inv-loop μ-loop
@@ -77,7 +77,7 @@ loop-again c =
     let if1′ = c .before .before .before .before .before .if1 in
     let parts-at′ = c .before .before .before .parts-at in
     rw (c .next .ensures)
-    (measure-more (loop′ .inv) (if1′ .taken) (parts-at′ .ensures) (c .before .before .len .ensures) (c .before .value-len .ensures))
+    (measure-more (loop′ .inv) (if1′ .taken) (parts-at′ .ensures) (c .before .before .len .ensures) (c .before .measure-value .ensures))
 
 returns : tie.Need-returns Inv-loop μ-loop
 returns c =
@@ -87,8 +87,8 @@ returns c =
 returns-2 : tie.Need-returns-2 Inv-loop μ-loop
 returns-2 c = all-measured (c .before .before .before .loop .inv) (c .if1 .left)
 
-pub params-len-spec : {M : Type 1} → statement M
-params-len-spec =
+pub measure-params-spec : {M : Type 1} → statement M
+measure-params-spec =
     tie.close
     (tie.spec
     Inv-loop
@@ -96,7 +96,7 @@ params-len-spec =
     loop-holds
     parts-at-requires
     len-requires
-    value-len-requires
+    measure-value-requires
     add-n
     add-n-2
     add-n-3
