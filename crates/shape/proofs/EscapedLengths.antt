@@ -26,9 +26,6 @@ escaped-bounds c = go (eqb c 34 || eqb c 92) refl
     go true e = rw e (omega arith)
     go false e = rw e (omega arith)
 
-pub at-most-two : (c : ℕ) {x : ℕ} → x ≡ escapedLen c → x ≤ 2
-at-most-two c e = omega (arith, e, escaped-bounds c)
-
 -- where a set holds neither `"` nor a backslash, no octet of a text of that set gets a backslash
 pub escape-clear : (f : ℕ → Bool) → f 34 ≡ false → f 92 ≡ false → (v : List ℕ) → all f v ≡ true → escape v ≡ v
 escape-clear f q b [] h = refl

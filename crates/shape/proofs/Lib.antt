@@ -2,7 +2,7 @@
 pub mod EscapedLengths
 pub mod SpanLengths
 pub mod ValueLengths
-pub mod CountedUpTo
+pub mod DroppedUpTo
 pub mod TokensUpTo
 pub mod LeftToWrite
 pub mod GoodRecords

@@ -1,5 +1,5 @@
 -- A loop that asks whether the part from a to e means a token is at place k, and has met token octets alone.
-use Prim.Native.Nat.{ℕ, suc, _+_, _≤_, _<_}
+use Prim.Native.Nat.{ℕ, _+_, _≤_, _<_}
 use native.Mathlib.Omega.{arith}
 use native.Mathlib.Numerals.{add-one}
 use mathlib.Core.Path.{_≡_, refl, sym, ap, _∙_}
@@ -7,11 +7,13 @@ use mathlib.Core.Bool.{Bool, true, false}
 use mathlib.Core.List.{List, [], _∷_}
 use lib.Dec.{ltb}
 use lib.ListN.{length, getD}
-use borrow.Author.Tests.{ltb-true, ltb-false}
+use borrow.Author.Tests.{ltb-true, ltb-false, eqb-false}
 use Rattle.octets.specs.Sets.{all, isToken}
+use Rattle.octets.proofs.Laws.{token-plain}
+use Rattle.grammar.proofs.Classes.{plain-not-backslash}
 use Rattle.tables.specs.Written.{isTokenText}
 use Rattle.values.specs.Rest.{rest, Meant}
-use Rattle.values.proofs.Meant.{none-left, length-step}
+use Rattle.values.proofs.Meant.{none-left, at-plain, at-backslash, length-step}
 
 pub record TokensUpTo (s : List ℕ) (e a k : ℕ) : Type 0 where
   pub inside : k ≤ e
@@ -44,13 +46,13 @@ module _ {s : List ℕ} {e a k : ℕ} (w : TokensUpTo s e a k) where
   tokens-end l = ended (none-left s l)
 
   module _ {p : ℕ} (m : Meant s e k p) where
-    pub tokens-none : e ≤ p → ltb a k ≡ isTokenText (rest s e a)
+    tokens-none : e ≤ p → ltb a k ≡ isTokenText (rest s e a)
     tokens-none l = ended (m .none l)
 
-    pub tokens-broken : p < e → isToken (getD s p 0) ≡ false → false ≡ isTokenText (rest s e a)
+    tokens-broken : p < e → isToken (getD s p 0) ≡ false → false ≡ isTokenText (rest s e a)
     tokens-broken l t = not-token (rest s e a) (w .tokens ∙ ap (all isToken) (m .octet l) ∙ rw t)
 
-    pub tokens-more : p < e → isToken (getD s p 0) ≡ true → TokensUpTo s e a (p + 1)
+    tokens-more : p < e → isToken (getD s p 0) ≡ true → TokensUpTo s e a (p + 1)
     tokens-more l t =
         rw (add-one p)
         (record {
@@ -66,3 +68,26 @@ module _ {s : List ℕ} {e a k : ℕ} (w : TokensUpTo s e a k) where
         go false h =
             let same : a ≡ k = omega (arith, w .forward, ltb-false a k h) in
             rw same (omega (arith, length-step m l))
+
+  module _ (l : k < e) (short : e ≤ length s) where
+    pub token-on : isToken (getD s k 0) ≡ true → TokensUpTo s e a (k + 1)
+    token-on t =
+        let n = eqb-false (getD s k 0) 92 (plain-not-backslash (getD s k 0) (token-plain (getD s k 0) t)) in
+        tokens-more (at-plain l short n) l t
+
+    pub other-here : isToken (getD s k 0) ≡ false → (getD s k 0 ≡ 92 → ⊥) → false ≡ isTokenText (rest s e a)
+    other-here t n = tokens-broken (at-plain l short n) l t
+
+    -- a backslash, and the octet behind it at p, if there is one
+    module _ (b : getD s k 0 ≡ 92) {p : ℕ} (at : p ≡ k + 1) where
+      behind : Meant s e k p
+      behind = rw at (at-backslash l short b)
+
+      pub lone-backslash : e ≤ p → ltb a k ≡ isTokenText (rest s e a)
+      lone-backslash = tokens-none behind
+
+      pub other-behind : p < e → isToken (getD s p 0) ≡ false → false ≡ isTokenText (rest s e a)
+      other-behind = tokens-broken behind
+
+      pub token-behind : p < e → isToken (getD s p 0) ≡ true → TokensUpTo s e a (p + 1)
+      token-behind = tokens-more behind

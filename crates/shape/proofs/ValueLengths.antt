@@ -32,20 +32,19 @@ token-all : (v : List ℕ) → isTokenText v ≡ true → all isToken v ≡ true
 token-all [] h = refl
 token-all (c ∷ v) h = h
 
-bare-length : (v : List ℕ) → isTokenText v ≡ true → all isToken v ≡ true → length (escape v) ≡ length (writtenValue v)
+bare-length : (v : List ℕ) → isTokenText v ≡ true → length (escape v) ≡ length (writtenValue v)
 unfolding writtenValue isToken
-bare-length v h t = rw (h, escape-clear isToken refl refl v t)
+bare-length v h = rw (h, escape-clear isToken refl refl v (token-all v h))
 
 not-token : (v : List ℕ) → all isToken v ≡ false → isTokenText v ≡ false
 not-token [] h = refl
 not-token (c ∷ v) h = h
 
 written-bound : (v : List ℕ) → length (writtenValue v) ≤ length (escape v) + 2
-unfolding isToken
 written-bound v = go (isTokenText v) refl
   where
     go : (b : Bool) → isTokenText v ≡ b → length (writtenValue v) ≤ length (escape v) + 2
-    go true e = omega (arith, bare-length v e (token-all v e))
+    go true e = omega (arith, bare-length v e)
     go false e = omega (arith, quoted-length v e)
 
 pub length-for : (v : List ℕ) → lenFor (length (escape v)) (all isToken v) ≡ length (writtenValue v)
@@ -56,7 +55,7 @@ length-for (c ∷ v) = go (all isToken (c ∷ v)) refl
     some-octets = omega (arith, escaped-length c (escape v), escaped-bounds c)
 
     go : (b : Bool) → all isToken (c ∷ v) ≡ b → lenFor (length (escape (c ∷ v))) (all isToken (c ∷ v)) ≡ length (writtenValue (c ∷ v))
-    go true e = rw (lt-ltb 0 (length (escape (c ∷ v))) some-octets, e) (bare-length (c ∷ v) e e)
+    go true e = rw (lt-ltb 0 (length (escape (c ∷ v))) some-octets, e) (bare-length (c ∷ v) e)
     go false e = rw (lt-ltb 0 (length (escape (c ∷ v))) some-octets, e) (quoted-length (c ∷ v) e)
 
 -- ---- the value of a good parameter
@@ -126,6 +125,15 @@ module _ {s : List ℕ} {p : Param} (g : GoodParam (further Rfc5988) s p) where
           rw is (omega (arith, n, wider-len v bare (wider-no-token s (g .value-span .inside) w)))
 
   -- of form 2
+  pub quoted-inside : p .form ≡ 2 → Inside s (p .valueFrom) (p .valueTo)
+  quoted-inside f = go (g .value)
+    where
+      go : GoodValue (further Rfc5988) s p → Inside s (p .valueFrom) (p .valueTo)
+      go (no-value f′ a b) = absurd (omega (arith, f, f′))
+      go (token-value f′ t) = absurd (omega (arith, f, f′))
+      go (quoted-value f′ q) = q
+      go (wider-value f′ w) = absurd (omega (arith, f, f′))
+
   quoted-bound : Inside s (p .valueFrom) (p .valueTo) → length (writtenValue (valueOf s p)) ≤ p .valueTo - p .valueFrom + 2
   quoted-bound q =
       let v = rest s (p .valueTo) (p .valueFrom) in
@@ -141,5 +149,6 @@ module _ {s : List ℕ} {p : Param} (g : GoodParam (further Rfc5988) s p) where
       go (quoted-value f q) = quoted-bound q
       go (wider-value f w) = omega (arith, span-in-quotes (λ q. omega (arith, f)) (λ q. omega (arith, f)))
 
+  -- what its span means is its value
   pub meant-length : {r : ℕ} → r ≡ length (writtenValue (rest s (p .valueTo) (p .valueFrom))) → r ≡ length (writtenValue (valueOf s p))
   meant-length h = rw (value-meant g) h

@@ -1,7 +1,8 @@
 // How a value is written: bare or in quotes, and in how many octets.
 ghost use mathlib.Core.Path.{_≡_};
-ghost use Prim.Native.Nat.{_*_, _≤_};
+ghost use Prim.Native.Nat.{_+_, _≤_};
 ghost use lib.ListN.{length};
+ghost use Rattle.grammar.specs.Grammar.{Inside};
 ghost use Rattle.octets.specs.Editions.{further};
 ghost use Rattle.octets.specs.declared.editions.Edition.the-variants.{Rfc5988};
 ghost use Rattle.outcomes.specs.Number.{limit};
@@ -16,52 +17,60 @@ use kinds::Span;
 use octet_classes::Set;
 use octet_classes::is_in;
 use records::ParamParts;
-use values::meant_at;
 
 // The form of a value that is a token.
 const TOKEN: usize = 1;
 
+// The form of a quoted string.
+const QUOTED: usize = 2;
+
 // How many octets a value takes that has n when it is escaped, and whose octets are all token octets or not.
 fn len_for(n: usize, tokens: bool) -> usize
-    requires { ⌜ n ≤ 2 * limit ⌝ }
+    requires { ⌜ n ≤ limit ⌝ }
     ensures { λ r. ⌜ r ≡ lenFor n tokens ⌝ }
 {
     if (n > 0) & tokens { n } else { n + 2 }
 }
 
-// How many octets an octet takes in a quoted string.
-fn escaped_len(c: u8) -> usize
-    ensures { λ r. ⌜ r ≡ escapedLen c ⌝ }
+// How many backslashes are dropped before an octet: `"` and a backslash keep the one that they stand behind.
+fn dropped_before(c: u8) -> usize
+    ensures { λ r. ⌜ r + escapedLen c ≡ 2 ⌝ }
 {
-    if (c == b'"') | (c == b'\\') { 2 } else { 1 }
+    if (c == b'"') | (c == b'\\') { 0 } else { 1 }
 }
 
-// How many octets what the part means takes.
-fn meant_len(classes: &[u8; 256], s: &[u8], part: Span) -> usize
+// How many octets the inside of a quoted string takes, once written: those of its span, less the backslashes that are dropped.
+fn quoted_len(classes: &[u8; 256], s: &[u8], part: Span) -> usize
     requires { ⌜ InText (now s) (part .from .0) (part .to .0) ⌝ }
+    requires { ⌜ Inside (now s) (part .from .0) (part .to .0) ⌝ }
     requires { ⌜ length (now s) ≤ limit ⌝ }
     requires { ⌜ Classes (now classes) ⌝ }
     ensures { λ r. ⌜ r ≡ length (writtenValue (rest (now (s .entry)) (part .to .0) (part .from .0))) ⌝ }
 {
     let e = part.to;
-    let mut n = 0;
+    let mut dropped = 0;
     let mut tokens = true;
     let mut k = part.from;
     while k.0 < e.0 {
-        let p = meant_at(s, k, e);
-        if p.0 >= e.0 {
-            return len_for(n, tokens);
+        let h = k.0;
+        let c = s[h];
+        if c == b'\\' {
+            let p = k.next();
+            let i = p.0;
+            let d = s[i];
+            dropped += dropped_before(d);
+            tokens = tokens & is_in(classes, Set::Token, d);
+            k = p.next();
+            continue;
         }
-        let i = p.0;
-        let c = s[i];
-        n += escaped_len(c);
         tokens = tokens & is_in(classes, Set::Token, c);
-        k = p.next();
+        k = k.next();
     }
-    len_for(n, tokens)
+    len_for(part.len() - dropped, tokens)
 }
 
-// How many octets a parameter's value takes. A token takes as many as it has, and isn't looked at again.
+// How many octets a parameter's value takes. A token takes as many as it has; an empty value where there is none, and a bare one that is
+// no token, 2 more for quotes: none of them is looked at.
 pub fn value_len(classes: &[u8; 256], text: &[u8], p: ParamParts) -> usize
     requires { ⌜ GoodParam (further Rfc5988) (now text) (toParam p) ⌝ }
     requires { ⌜ length (now text) ≤ limit ⌝ }
@@ -71,7 +80,10 @@ pub fn value_len(classes: &[u8; 256], text: &[u8], p: ParamParts) -> usize
     if p.form == TOKEN {
         return p.value.len();
     }
-    meant_len(classes, text, p.value)
+    if p.form == QUOTED {
+        return quoted_len(classes, text, p.value);
+    }
+    p.value.len() + 2
 }
 
 // Whether what the part means is a token. The first octet that isn't a token's decides.
@@ -83,7 +95,16 @@ fn means_token(classes: &[u8; 256], s: &[u8], part: Span) -> bool
     let e = part.to;
     let mut k = a;
     while k.0 < e.0 {
-        let p = meant_at(s, k, e);
+        let h = k.0;
+        let c = s[h];
+        if is_in(classes, Set::Token, c) {
+            k = k.next();
+            continue;
+        }
+        if c != b'\\' {
+            return false;
+        }
+        let p = k.next();
         if p.0 >= e.0 {
             return k.0 > a.0;
         }
