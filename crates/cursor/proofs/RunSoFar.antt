@@ -2,7 +2,7 @@
 use Prim.Native.Nat.{ℕ, suc, _+_, _≤_, _<_}
 use native.Mathlib.Omega.{arith}
 use native.Mathlib.Numerals.{add-one}
-use mathlib.Core.Path.{_≡_, subst, sym}
+use mathlib.Core.Path.{_≡_}
 use mathlib.Core.Bool.{Bool, true, false}
 use mathlib.Core.List.{List}
 use lib.ListN.{length, getD}
@@ -19,6 +19,10 @@ module _ {f : ℕ → Bool} {s : List ℕ} where
   run-snoc run-end c = run-more c run-end
   run-snoc (run-more b r) c = run-more b (run-snoc r c)
 
+  run-on : {a b e : ℕ} → Run s f a b → Run s f b e → Run s f a e
+  run-on run-end q = q
+  run-on (run-more c r) q = run-more c (run-on r q)
+
   pub begin : {a : ℕ} → a ≤ length s → RunSoFar f s a a
   begin h = record { forward = omega arith; inside = h; run = run-end }
 
@@ -29,6 +33,11 @@ module _ {f : ℕ → Bool} {s : List ℕ} where
         inside = omega arith;
         run = rw (add-one i) (run-snoc (g .run) (record { inside = h; is = e }));
       }
+
+  -- a run behind it
+  pub further : {a b e : ℕ} → RunSoFar f s a b → RunSoFar f s b e → RunSoFar f s a e
+  further g h =
+      record { forward = omega (arith, g .forward, h .forward); inside = h .inside; run = run-on (g .run) (h .run) }
 
   pub at-end : {a i : ℕ} → RunSoFar f s a i → length s ≤ i → Passed f s a i
   at-end g h = record { forward = g .forward; inside = g .inside; run = g .run; stops = λ l. absurd (omega arith) }

@@ -16,10 +16,11 @@ use Rattle.grammar.specs.Grammar.{Extra, At, In, Run, run-end, run-more, Target
 use Rattle.grammar.specs.Machine.{target, percent, hex}
 use Rattle.tables.proofs.Texts.{run-le}
 use Rattle.cursor.specs.Passed.{Looked}
+use Rattle.cursor.proofs.RunSoFar.{run-snoc}
 use Rattle.scan_parts.specs.Stands.{Stands}
-use Rattle.known.specs.Known.{KnownTarget}
+use Rattle.known.specs.Known.{KnownTarget, isOpen}
 use Rattle.scan_parts.proofs.Standing.{stands-on, dies-at, dies-end}
-use Rattle.known.proofs.DerivedGoesOn.{must, not-seen}
+use Rattle.known.proofs.DerivedGoesOn.{must}
 
 -- a target, and the `>` behind it
 pub record Closed (s : List ℕ) (i : ℕ) : Type 0 where
@@ -69,14 +70,14 @@ module _ {extra : Extra} {s : List ℕ} {R : List Link} (derived : Field extra s
 -- on the way to a target's `>`
 pub record Seeking (s : List ℕ) (a i : ℕ) : Type 0 where
   pub whole : Closed s a
-  pub left : Run s (λ c. not (eqb c 62)) i (whole .end)
+  pub left : Run s isOpen i (whole .end)
 
 module _ {s : List ℕ} where
-  not-close : (f : ℕ → Bool) {i : ℕ} → f 62 ≡ false → In s f i → In s (λ c. not (eqb c 62)) i
+  not-close : (f : ℕ → Bool) {i : ℕ} → f 62 ≡ false → In s f i → In s isOpen i
   not-close f {i} n x = record { inside = x .inside; is = rw (not-eqb f 62 (getD s i 0) n (x .is)) }
 
   -- no `>` stands within a target
-  unclosed : {a e : ℕ} → Target s a e → Run s (λ c. not (eqb c 62)) a e
+  unclosed : {a e : ℕ} → Target s a e → Run s isOpen a e
   unfolding isTarget isHex
   unclosed target-end = run-end
   unclosed (octet c t) = run-more (not-close isTarget refl c) (unclosed t)
@@ -84,10 +85,20 @@ module _ {s : List ℕ} where
       run-more (record { inside = p .inside; is = rw (p .is) })
       (run-more (not-close isHex refl x) (run-more (not-close isHex refl y) (unclosed t)))
 
-  pub seek : {a : ℕ} → KnownTarget s a → Seeking s a a
-  seek {a} k =
+  open-or-close : {i : ℕ} → In s isOpen i → At s i 62 → ⊥
+  open-or-close {i} c e = true≢false (sym (c .is) ∙ ap not (eq-eqb (getD s i 0) 62 (e .is)))
+
+  -- what is passed without a `>` stands before the first
+  left-of : {i j e : ℕ} → Run s isOpen i j → Run s isOpen i e → At s e 62 → Run s isOpen j e
+  left-of run-end r q = r
+  left-of (run-more c p) run-end q = absurd (open-or-close c q)
+  left-of (run-more c p) (run-more d r) q = left-of p r q
+
+  -- blocks are passed first, and then octets
+  pub seek : {a b i : ℕ} → KnownTarget s a → Run s isOpen a b → Run s isOpen b i → Seeking s a i
+  seek {a} k p q =
       let w = target-closes (k .known .derived) (k .links) (k .from) (length s) a (omega arith) (k .known .stands) in
-      record { whole = w; left = unclosed (w .inside) }
+      record { whole = w; left = left-of q (left-of p (unclosed (w .inside)) (w .closed)) (w .closed) }
 
   pub seek-inside : {a i : ℕ} → Seeking s a i → i < length s
   seek-inside g = omega (arith, run-le s (g .left), g .whole .closed .inside)
@@ -95,14 +106,10 @@ module _ {s : List ℕ} where
   pub sought : {a i : ℕ} → Seeking s a i → At s i 62 → Target s a i × At s i 62
   sought {a} {i} g e = go (g .left) (g .whole .inside)
     where
-      go : {j : ℕ} → Run s (λ c. not (eqb c 62)) i j → Target s a j → Target s a i × At s i 62
+      go : {j : ℕ} → Run s isOpen i j → Target s a j → Target s a i × At s i 62
       go run-end t = (t, e)
-      go (run-more c r) t = absurd (true≢false (sym (c .is) ∙ ap not (eq-eqb (getD s i 0) 62 (e .is))))
+      go (run-more c r) t = absurd (open-or-close c e)
 
-  pub seek-on : {a i j : ℕ} {b : Bool} → Seeking s a i → Looked s i 62 b → b ≡ false → j ≡ i + 1 → Seeking s a j
-  seek-on {i = i} g l f k =
-      record { whole = g .whole; left = rw (k, add-one) (go (g .left) (g .whole .closed)) }
-    where
-      go : {j : ℕ} → Run s (λ c. not (eqb c 62)) i j → At s j 62 → Run s (λ c. not (eqb c 62)) (suc i) j
-      go run-end q = absurd (not-seen l f q)
-      go (run-more c r) q = r
+  -- an octet more
+  pub open-more : {b i j : ℕ} {r : Bool} → Run s isOpen b i → i < length s → Looked s i 62 r → r ≡ false → j ≡ i + 1 → Run s isOpen b j
+  open-more p h l f k = rw (k, add-one) (run-snoc p (record { inside = h; is = ap not (l .not f h) }))

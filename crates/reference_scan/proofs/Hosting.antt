@@ -12,8 +12,10 @@ use Rattle.octets.proofs.Octets.{Octets, within, or-octets, between-octets, one
 use Rattle.references.specs.Octets.{ALPHA}
 use Rattle.references.proofs.SetOctets.{has-octets}
 use Rattle.reference_steps.specs.Machine.{step, run}
+use Rattle.cursor.proofs.RunSoFar.{RunSoFar}
 use Rattle.reference_scan.specs.Common.{isHosted}
 use Rattle.reference_scan.specs.Comes.{Comes}
+use Rattle.reference_scan.proofs.Runs.{passed-run}
 use Rattle.reference_scan.proofs.Between.{run-cons, comes-step, comes-then}
 
 -- the state, by whether it is a host still
@@ -62,14 +64,14 @@ module _ {s : List ℕ} {a : ℕ} where
   hosted-more {i} host p l h = comes-then p (comes-step l (hosted-step host (getD s i 0) h) (alive (stays host (getD s i 0))))
 
   -- from the slashes on it goes as inside a host, if there is a first octet
-  pub from-slashes : {e p : ℕ} → isHosted (getD s a 0) ≡ true → a < e → Comes s a 6 e p → Comes s a 5 e p
+  pub from-slashes : {e p : ℕ} → RunSoFar isHosted s a e → a < e → Comes s a 6 e p → Comes s a 5 e p
   from-slashes {e} {p} h l c =
       record {
         forward = c .forward;
         inside = c .inside;
         state =
             c .state ∙ run-cons s 6 a e l (c .inside)
-            ∙ ap (λ (q : ℕ). run q (slice (suc a) e s)) (sym (at-slashes (getD s a 0) h))
+            ∙ ap (λ (q : ℕ). run q (slice (suc a) e s)) (sym (at-slashes (getD s a 0) (passed-run h .all a (omega arith) l)))
             ∙ sym (run-cons s 5 a e l (c .inside));
         lives = λ n. c .lives (λ q. omega arith);
       }

@@ -1,4 +1,4 @@
--- Blocks: what a loop through one has found so far. Assumes nothing.
+-- The first octet of a block that isn't in a set: what a loop through the block has found so far. Assumes nothing.
 use Prim.Native.Nat.{ℕ, _+_, _*_, _≤_, _<_}
 use native.Mathlib.Omega.{arith}
 use mathlib.Core.Path.{_≡_, refl}
@@ -10,15 +10,6 @@ use borrow.Author.Tests.{ltb-true, ltb-false}
 use mir.Val.{boolByte}
 
 module _ (f : ℕ → Bool) (s : List ℕ) (a : ℕ) where
-  -- one octet more
-  pub below-more : {n : ℕ} → ((j : ℕ) → j < n → f (getD s (a + j) 0) ≡ true) → f (getD s (a + n) 0) ≡ true →
-      (j : ℕ) → j < n + 1 → f (getD s (a + j) 0) ≡ true
-  below-more {n} g e j l = side (ltb j n) refl
-    where
-      side : (t : Bool) → ltb j n ≡ t → f (getD s (a + j) 0) ≡ true
-      side true w = g j (ltb-true j n w)
-      side false w = let q : j ≡ n = omega (arith, ltb-false j n w) in rw q e
-
   -- the least place so far of an octet that isn't in the set: r, with one octet more
   pub least-more : (first k r : ℕ) (ok : Bool) → ((j : ℕ) → j < k → j < first → f (getD s (a + j) 0) ≡ true) →
       (ok ≡ true → f (getD s (a + k) 0) ≡ true) → r ≤ first → r ≤ boolByte ok * 16 + k →

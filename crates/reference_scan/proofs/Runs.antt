@@ -1,12 +1,15 @@
 -- Runs of octets of a set. Assumes nothing.
 use Prim.Native.Nat.{ℕ, _+_, _-_, _≤_, _<_}
 use native.Mathlib.Omega.{arith}
+use native.Mathlib.Numerals.{add-one}
 use mathlib.Core.Path.{_≡_, refl}
 use mathlib.Core.Bool.{Bool, true, false}
 use mathlib.Core.List.{List}
 use lib.Dec.{ltb}
 use lib.ListN.{length, getD}
 use borrow.Author.Tests.{ltb-true, ltb-false}
+use Rattle.grammar.specs.Grammar.{Run, run-end, run-more}
+use Rattle.cursor.proofs.RunSoFar.{RunSoFar}
 use Rattle.reference_scan.specs.Passed.{Passed}
 
 module _ {f : ℕ → Bool} {s : List ℕ} where
@@ -38,6 +41,14 @@ module _ {f : ℕ → Bool} {s : List ℕ} where
         inside = omega arith;
         all = λ k l m. let q : k ≡ i = omega arith in rw q e;
       })
+
+  run-passed : {a e : ℕ} → e ≤ length s → Run s f a e → Passed f s a e
+  run-passed h run-end = passed-none h
+  run-passed {a} h (run-more c r) =
+      passed-then (rw (add-one a) at (passed-more (passed-none (omega (arith, c .inside))) (c .inside) (c .is))) (run-passed h r)
+
+  pub passed-run : {a e : ℕ} → RunSoFar f s a e → Passed f s a e
+  passed-run g = run-passed (g .inside) (g .run)
 
   -- octets counted from a
   pub passed-count : (a n : ℕ) → a + n ≤ length s → ((j : ℕ) → j < n → f (getD s (a + j) 0) ≡ true) → Passed f s a (a + n)

@@ -1,8 +1,9 @@
 // Blocks of 16 octets, tested by comparisons that become vector code: no test of an octet branches, and a block is gone through to its end.
 ghost use mathlib.Core.Path.{_≡_};
-ghost use mathlib.Core.Bool.{true};
 ghost use Prim.Native.Nat.{_+_, _≤_};
 ghost use lib.ListN.{length};
+ghost use lib.Seq.{slice};
+ghost use Rattle.octets.specs.Sets.{all};
 ghost use Rattle.reference_sets.specs.Sets.{isPath};
 ghost use Rattle.reference_scan.specs.Common.{isCommon};
 ghost use Rattle.reference_scan.specs.Passed.{Passed};
@@ -19,7 +20,7 @@ fn is_common(c: u8) -> bool
 // Whether all octets of a block are such.
 pub fn all_common(s: &[u8], at: usize) -> bool
     requires { ⌜ at + 16 ≤ length (now s) ⌝ }
-    ensures { λ r. ⌜ (r ≡ true → Passed isPath (now (s .entry)) at (at + 16)) ⌝ }
+    ensures { λ r. ⌜ r ≡ all isCommon (slice at (at + 16) (now (s .entry))) ⌝ }
 {
     let mut all = true;
     for k in 0..16 {

@@ -1,26 +1,23 @@
--- All octets so far are in the set, if none was found that isn't. Assumes nothing.
-use Prim.Native.Nat.{ℕ, _+_, _-_, _≤_, _<_}
+-- Whether all octets so far are such. Assumes nothing.
+use Prim.Native.Nat.{_+_, _-_, _≤_}
 use native.Mathlib.Omega.{arith}
-use mathlib.Core.Path.{_≡_, sym, _∙_}
-use mathlib.Core.Bool.{true}
-use lib.ListN.{getD}
+use mathlib.Core.Path.{_≡_}
+use lib.Seq.{slice}
 use borrow.Author.Needs.{needs}
-use Rattle.octets.proofs.Octets.{both}
-use Rattle.reference_sets.specs.Sets.{isPath}
-use Rattle.reference_scan.proofs.Runs.{passed-count}
-use Rattle.reference_scan.proofs.InBlocks.{below-more}
-use Rattle.reference_scan.proofs.Commons.{common-path}
+use Rattle.octets.specs.Sets.{all}
+use Rattle.cursor.proofs.AllInBlock.{all-none, all-more}
+use Rattle.reference_scan.specs.Common.{isCommon}
 use Rattle.reference_scan.proofs.blocks.all_common.Statement.{statement}
 use Rattle.reference_scan.proofs.blocks.all_common.Tie as tie
 
 abbrev Inv-loop : tie.InvT-loop
-Inv-loop s at all₀ k₀ all k = (k ≤ 16) × (all ≡ true → (j : ℕ) → j < k → isPath (getD s (at + j) 0) ≡ true)
+Inv-loop s at all₀ k₀ found k = (k ≤ 16) × (found ≡ all isCommon (slice at (at + k) s))
 
 abbrev μ-loop : tie.MeasureT-loop
 μ-loop s at all₀ k₀ all k = 16 - k
 
 loop-holds : tie.Need-loop-holds Inv-loop μ-loop
-loop-holds c = (omega arith, λ e j l. absurd (omega arith))
+loop-holds c = (omega arith, all-none isCommon (c .before .args .s .now) (c .before .args .at))
 
 add-is-common : tie.Need-add-is-common Inv-loop μ-loop
 add-is-common c = search needs
@@ -39,20 +36,18 @@ loop-less c = search needs
 
 loop-again : tie.Need-loop-again Inv-loop μ-loop
 loop-again c =
-    let at = c .before .before .before in
-    let start = c .before .before .before .before .before in (
-      omega (arith, c .before .before .loop-test .taken),
-      λ e.
-          let found = both (at .loop .all) (c .is-common .result) e in
-          below-more isPath (start .args .s .now) (start .args .at) (at .loop .inv .1 (found .0))
-          (common-path (getD (start .args .s .now) (start .args .at + at .loop .k) 0) (sym (c .is-common .ensures) ∙ found .1)),
+    let at = c .before .before .before .loop in
+    let start = c .before .before .before .before .before in
+    let more = c .before .before .loop-test .taken in (
+      omega (arith, more),
+      rw (c .is-common .ensures)
+          (all-more isCommon (start .args .s .now) (start .args .at) (at .k) (at .inv .1) (omega (arith, more, start .pre))),
     )
 
 returns : tie.Need-returns Inv-loop μ-loop
 returns c =
-    λ e.
-    let all : c .before .loop .k ≡ 16 = omega (arith, c .loop-test .left, c .before .loop .inv .0) in
-    passed-count (c .before .before .before .args .at) 16 (c .before .before .before .pre) (rw all at (c .before .loop .inv .1 e))
+    let whole : c .before .loop .k ≡ 16 = omega (arith, c .loop-test .left, c .before .loop .inv .0) in
+    rw whole at (c .before .loop .inv .1)
 
 pub all-common-spec : {M : Type 1} → statement M
 all-common-spec =

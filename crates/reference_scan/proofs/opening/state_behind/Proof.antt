@@ -1,25 +1,27 @@
 -- As long as all octets are those of hosts and paths, the state is a host's or a path's. Assumes nothing.
-use Prim.Native.Nat.{ℕ, _+_, _-_, _≤_, _<_}
+use Prim.Native.Nat.{_+_, _-_, _≤_, _<_}
 use native.Mathlib.Omega.{arith}
 use mathlib.Core.Path.{_≡_, refl, sym, _∙_}
 use mathlib.Core.Bool.{true}
-use lib.ListN.{length, getD}
+use lib.ListN.{length}
+use lib.Seq.{slice}
 use borrow.Author.Needs.{needs}
 use borrow.Author.Tests.{not-false}
+use Rattle.octets.specs.Sets.{all}
 use Rattle.octets.proofs.Octets.{both}
+use Rattle.cursor.proofs.AllInBlock.{all-none, all-more, all-passed}
 use Rattle.reference_scan.specs.Common.{isHosted}
 use Rattle.reference_scan.specs.Comes.{Comes}
 use Rattle.reference_scan.proofs.Between.{comes-none}
-use Rattle.reference_scan.proofs.InBlocks.{below-more}
 use Rattle.reference_scan.proofs.Hosting.{behind, hosted-more, from-slashes}
 use Rattle.reference_scan.proofs.opening.state_behind.Statement.{statement}
 use Rattle.reference_scan.proofs.opening.state_behind.Tie as tie
 
 abbrev Inv-loop : tie.InvT-loop
-Inv-loop s at all₀ host₀ k₀ all host k =
+Inv-loop s at all₀ host₀ k₀ found host k =
     (k ≤ 16)
-    × (all ≡ true → Comes s at 6 (at + k) (behind host))
-    × (all ≡ true → (j : ℕ) → j < k → isHosted (getD s (at + j) 0) ≡ true)
+    × (found ≡ true → Comes s at 6 (at + k) (behind host))
+    × (found ≡ all isHosted (slice at (at + k) s))
 
 abbrev μ-loop : tie.MeasureT-loop
 μ-loop s at all₀ host₀ k₀ all host k = 16 - k
@@ -27,7 +29,7 @@ abbrev μ-loop : tie.MeasureT-loop
 loop-holds : tie.Need-loop-holds Inv-loop μ-loop
 loop-holds c =
     let none : c .before .args .at + 0 ≡ c .before .args .at = omega arith in
-    (omega arith, (λ e. rw none (comes-none 6 (omega (arith, c .before .pre)))), λ e j l. absurd (omega arith))
+    (omega arith, (λ e. rw none (comes-none 6 (omega (arith, c .before .pre)))), all-none isHosted (c .before .args .s .now) (c .before .args .at))
 
 add-c : tie.Need-add-c Inv-loop μ-loop
 add-c c = search needs
@@ -55,10 +57,7 @@ loop-again c =
       (λ e.
           let found = both (at .loop .all) (c .is-hosted .result) e in
           rw next (hosted-more (at .loop .host) (at .loop .inv .1 (found .0)) inside (sym (c .is-hosted .ensures) ∙ found .1))),
-      λ e.
-          let found = both (at .loop .all) (c .is-hosted .result) e in
-          below-more isHosted (start .args .s .now) (start .args .at) (at .loop .inv .2 (found .0))
-          (sym (c .is-hosted .ensures) ∙ found .1),
+      rw (c .is-hosted .ensures) (all-more isHosted (start .args .s .now) (start .args .at) (at .loop .k) (at .loop .inv .2) inside),
     )
 
 returns : tie.Need-returns Inv-loop μ-loop
@@ -68,23 +67,21 @@ returns-2 : tie.Need-returns-2 Inv-loop μ-loop
 returns-2 c =
     λ n.
     let at = c .before .before .before in
-    let all : at .loop .k ≡ 16 = omega (arith, c .before .before .loop-test .left, at .loop .inv .0) in
     let start = c .before .before .before .before .before in
-    let none : start .args .at + 0 ≡ start .args .at = omega arith in
+    let whole : at .loop .k ≡ 16 = omega (arith, c .before .before .loop-test .left, at .loop .inv .0) in
     let good = not-false _ (c .before .if1 .left) in
-    from-slashes (rw none at (at .loop .inv .2 good 0 (omega arith))) (omega arith)
-    (rw (all, c .if2 .taken) at (at .loop .inv .1 good))
+    from-slashes (all-passed isHosted _ (start .args .at) 16 (start .pre) (sym (rw whole at (at .loop .inv .2)) ∙ good)) (omega arith)
+    (rw (whole, c .if2 .taken) at (at .loop .inv .1 good))
 
 returns-3 : tie.Need-returns-3 Inv-loop μ-loop
 returns-3 c =
     λ n.
     let at = c .before .before .before in
-    let all : at .loop .k ≡ 16 = omega (arith, c .before .before .loop-test .left, at .loop .inv .0) in
     let start = c .before .before .before .before .before in
-    let none : start .args .at + 0 ≡ start .args .at = omega arith in
+    let whole : at .loop .k ≡ 16 = omega (arith, c .before .before .loop-test .left, at .loop .inv .0) in
     let good = not-false _ (c .before .if1 .left) in
-    from-slashes (rw none at (at .loop .inv .2 good 0 (omega arith))) (omega arith)
-    (rw (all, c .if2 .left) at (at .loop .inv .1 good))
+    from-slashes (all-passed isHosted _ (start .args .at) 16 (start .pre) (sym (rw whole at (at .loop .inv .2)) ∙ good)) (omega arith)
+    (rw (whole, c .if2 .left) at (at .loop .inv .1 good))
 
 pub state-behind-spec : {M : Type 1} → statement M
 state-behind-spec =

@@ -1,10 +1,15 @@
 -- One block behind another. Assumes nothing.
 use Prim.Native.Nat.{_-_}
+use native.Mathlib.Omega.{arith}
+use mathlib.Core.Path.{sym, _∙_}
 use lib.ListN.{length}
 use borrow.Author.Needs.{needs}
 use Rattle.reference_sets.specs.Sets.{isPath}
+use Rattle.cursor.proofs.AllInBlock.{all-passed}
+use Rattle.reference_scan.specs.Common.{isCommon}
 use Rattle.reference_scan.specs.Passed.{Passed}
-use Rattle.reference_scan.proofs.Runs.{passed-none, passed-then}
+use Rattle.reference_scan.proofs.Runs.{passed-none, passed-then, passed-run, passed-within}
+use Rattle.reference_scan.proofs.Commons.{common-path}
 use Rattle.reference_scan.proofs.passing.past_blocks.Statement.{statement}
 use Rattle.reference_scan.proofs.passing.past_blocks.Tie as tie
 
@@ -30,7 +35,12 @@ loop-less : tie.Need-loop-less Inv-loop μ-loop
 loop-less c = search needs
 
 loop-again : tie.Need-loop-again Inv-loop μ-loop
-loop-again c = passed-then (c .before .before .before .loop .inv) (c .before .all-common .ensures (c .if1 .taken))
+loop-again c =
+    let at = c .before .before .before .loop in
+    passed-then (at .inv)
+    (passed-within common-path
+    (passed-run
+    (all-passed isCommon _ (at .i) 16 (omega (arith, c .before .before .loop-test .taken)) (sym (c .before .all-common .ensures) ∙ c .if1 .taken))))
 
 returns : tie.Need-returns Inv-loop μ-loop
 returns c = c .before .before .before .loop .inv
