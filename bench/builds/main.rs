@@ -2,6 +2,7 @@
 //! this.
 
 mod copies;
+mod different;
 mod headers;
 
 use copies::{COPIES, LAYOUTS};

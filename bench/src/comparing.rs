@@ -2,6 +2,7 @@
 
 use crate::library::{self, Table, EDITION, LIMIT};
 use capstanbar::ffi::{self, FeedingState, ReadAnswer};
+use capstanbar::{LINK_SLOTS, PARAM_SLOTS};
 
 /// What reading answers, and the slots as it leaves them.
 #[derive(PartialEq)]
@@ -38,11 +39,13 @@ pub fn reading_in(edition: usize, name: &str, header: &[u8]) -> Reading {
     this
 }
 
-/// A well-formed header, read into tables.
+/// A well-formed header, read into tables. They have no slots beyond their records, so that those of many headers lie close.
 pub fn table(name: &str, header: &[u8]) -> Table {
     let reading = reading(name, header);
     assert_eq!(reading.answer.number, 0, "{name}");
-    let (links, params) = reading.slots;
+    let (mut links, mut params) = reading.slots;
+    links.truncate(LINK_SLOTS * reading.answer.links);
+    params.truncate(PARAM_SLOTS * reading.answer.params);
     Table {
         text: header.to_vec(),
         links,

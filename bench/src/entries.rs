@@ -1,8 +1,9 @@
 //! Each entry, beside the table loop and the independent reader.
 
 use crate::clock::Contender;
+use crate::different::mixed;
 use crate::figures::{figures, Figures};
-use crate::headers::{samples, to_read, Sample};
+use crate::headers::{samples, to_read, Sample, MIXED};
 use crate::library::{Table, EDITION, LIMIT};
 use crate::{comparing, contenders, independent, library};
 use capstanbar::Name;
@@ -16,13 +17,25 @@ pub fn print() {
         .iter()
         .for_each(|(name, headers)| read(name, headers));
     let samples = samples();
-    let table_of = |sample: &Sample| comparing::table(sample.name, &sample.header);
     let tables: Vec<Table> = samples.iter().map(table_of).collect();
+    let mixed: Vec<Table> = mixed()
+        .iter()
+        .map(|header| comparing::table(MIXED, header))
+        .collect();
     let asked = || samples.iter().zip(&tables);
-    asked().for_each(|(sample, table)| search(sample, table));
+    asked().for_each(|(sample, table)| search(sample.name, from_ref(table), sample.relation));
+    search(MIXED, &mixed, b"last");
     asked().for_each(|(sample, table)| value(sample, table));
-    asked().for_each(|(sample, table)| write(sample.name, table));
-    write("60 links that share spans", &shared_spans());
+    asked().for_each(|(sample, table)| write(sample.name, from_ref(table)));
+    write(MIXED, &mixed);
+    write("60 links that share spans", &[shared_spans()]);
+}
+
+fn table_of(sample: &Sample) -> Table {
+    let table = comparing::table(sample.name, &sample.header);
+    let found = library::search(&table, sample.relation);
+    assert_eq!(found, (0, table.link_count - 1), "{}", sample.name);
+    table
 }
 
 /// A table that no header was read into.
@@ -75,14 +88,20 @@ fn read(name: &str, headers: &[Vec<u8>]) {
     line("read", name, headers, contenders::read(headers), other);
 }
 
-fn search(sample: &Sample, t: &Table) {
-    let query = sample.relation;
-    let this = library::search(t, query);
-    assert_eq!(this, (0, t.link_count - 1), "{}", sample.name);
-    assert_eq!(this, independent::search(t, query), "{}", sample.name);
-    let this = Contender::new(|| library::search(t, query));
-    let other = || independent::search(t, query);
-    line("search", sample.name, from_ref(&t.text), this, other);
+/// The tables are asked in turn.
+fn search(name: &str, tables: &[Table], relation: &[u8]) {
+    for t in tables {
+        let this = library::search(t, relation);
+        assert_eq!(this, independent::search(t, relation), "{name}");
+    }
+    let texts: Vec<Vec<u8>> = tables.iter().map(|t| t.text.clone()).collect();
+    let this = contenders::asked(tables, |t| library::search(t, relation));
+    let other = || {
+        for t in tables {
+            black_box(independent::search(t, relation));
+        }
+    };
+    line("search", name, &texts, this, other);
 }
 
 fn value(sample: &Sample, t: &Table) {
@@ -97,14 +116,25 @@ fn value(sample: &Sample, t: &Table) {
 }
 
 /// The octets are those written.
-fn write(name: &str, t: &Table) {
+fn write(name: &str, tables: &[Table]) {
     let (mut out, mut out2) = ([0; LIMIT], [0; LIMIT]);
-    let this = library::write(t, &mut out);
-    let other = independent::write(t, &mut out2);
-    assert_eq!((this, out), (other, out2), "{name}");
-    assert_eq!(this.0, 0, "{name}");
-    let written = out[..this.1].to_vec();
-    let this = Contender::new(|| library::write(t, &mut out));
-    let other = || independent::write(t, &mut out2);
-    line("write", name, from_ref(&written), this, other);
+    let mut written = |t: &Table| {
+        let this = library::write(t, &mut out);
+        let other = independent::write(t, &mut out2);
+        assert_eq!((this, out), (other, out2), "{name}");
+        assert_eq!(this.0, 0, "{name}");
+        out[..this.1].to_vec()
+    };
+    let texts: Vec<Vec<u8>> = tables.iter().map(&mut written).collect();
+    let this = Contender::new(|| {
+        for t in tables {
+            black_box(library::write(t, &mut out));
+        }
+    });
+    let other = || {
+        for t in tables {
+            black_box(independent::write(t, &mut out2));
+        }
+    };
+    line("write", name, &texts, this, other);
 }

@@ -1,6 +1,8 @@
 //! The headers that are measured. Every link has a relation, so that each table can be written too, and every target that is closed is a
 //! reference, so that builds that judge targets and builds that don't answer alike.
 
+use crate::different;
+
 /// A well-formed header and what is asked of its table.
 pub struct Sample {
     pub name: &'static str,
@@ -19,11 +21,7 @@ pub fn samples() -> Vec<Sample> {
         value,
     };
     vec![
-        sample(
-            "paginated",
-            paginated("https://api.example.org/v2/catalogue/18/items", 1997),
-            (3, 0),
-        ),
+        sample("paginated", four_pages(), (3, 0)),
         sample("60 links", sixty_links(), (59, 1)),
         sample("quoted and escaped", escaped(), (3, 1)),
         sample("many parameters", many_params(), (1, 3)),
@@ -31,20 +29,24 @@ pub fn samples() -> Vec<Sample> {
     ]
 }
 
+pub const MIXED: &str = "mixed, 500 different in turn";
+
 /// The headers that are read: one alone under each name, or many in turn.
 pub fn to_read() -> Vec<(&'static str, Vec<Vec<u8>>)> {
     let alone = |sample: Sample| (sample.name, vec![sample.header]);
     let mut all: Vec<_> = samples().into_iter().map(alone).collect();
     all.push(("one target of 80 octets", vec![one_target()]));
+    all.push(("one target of 8,000 octets", vec![long_target()]));
     all.push(("one IP literal", vec![ip_literal()]));
     all.push(("malformed", vec![malformed()]));
-    all.push(("paginated, 500 different in turn", different()));
+    all.push(("paginated, 500 different in turn", different::pages()));
+    all.push((MIXED, different::mixed()));
     all
 }
 
 /// Four links, as a listing that comes in packs has.
-fn paginated(target: &str, last: u32) -> Vec<u8> {
-    let page = |number: u32, relation: &str| {
+pub fn paginated(target: &str, last: usize) -> String {
+    let page = |number: usize, relation: &str| {
         format!("<{target}?page={number}&per_page=50>; rel=\"{relation}\"")
     };
     let pages = [
@@ -53,7 +55,11 @@ fn paginated(target: &str, last: u32) -> Vec<u8> {
         page(1, "first"),
         page(last, "last"),
     ];
-    pages.join(", ").into_bytes()
+    pages.join(", ")
+}
+
+fn four_pages() -> Vec<u8> {
+    paginated("https://api.example.org/v2/catalogue/18/items", 1997).into_bytes()
 }
 
 /// A link without parameters, so that reading is mostly judging its target.
@@ -63,7 +69,15 @@ fn one_target() -> Vec<u8> {
     format!("<{target}>").into_bytes()
 }
 
-/// The same with an address in brackets, an IPv4 one at its end.
+/// A target that is a long path. Nearly all of it goes by blocks of 16 octets, in either pass: if the compiler no longer makes vector
+/// code of the loops through a block, it shows here more than anywhere.
+fn long_target() -> Vec<u8> {
+    let target = "/shelves/12/books/24".repeat(400);
+    assert_eq!(target.len(), 8000);
+    format!("<{target}>; rel=last").into_bytes()
+}
+
+/// One target with an address in brackets, an IPv4 one at its end.
 fn ip_literal() -> Vec<u8> {
     b"<https://[2001:db8:0:18::c0a8:192.0.2.33]:8443/packs/8?lang=de>".to_vec()
 }
@@ -112,7 +126,7 @@ fn rel_last() -> Vec<u8> {
 
 /// Links, the last of which is broken off in its value.
 fn malformed() -> Vec<u8> {
-    let pages = paginated("https://api.example.org/v2/catalogue/18/items", 1997);
+    let pages = four_pages();
     let mut header = [&pages[..], &pages, &pages].join(&b", "[..]);
     header.pop();
     header
@@ -125,34 +139,6 @@ pub fn wrong_midway() -> Vec<u8> {
     let target = header[middle..].iter().position(|&octet| octet == b'<');
     header[middle + target.expect("a link begins") + 1] = b' ';
     header
-}
-
-/// Paginated headers that differ, so that a processor can't learn how the next one goes.
-fn different() -> Vec<Vec<u8>> {
-    const WORDS: [&str; 8] = [
-        "api",
-        "Users",
-        "orders-2",
-        "v3",
-        "feed.atom",
-        "search",
-        "a%20b",
-        "2024",
-    ];
-    let mut state = 1u32;
-    let mut any = |below: u32| {
-        state = state.wrapping_mul(1_664_525).wrapping_add(1_013_904_223);
-        (state >> 16) % below
-    };
-    let mut header = || {
-        let mut target = String::from("https://example.org");
-        for _ in 0..1 + any(4) {
-            target.push('/');
-            target.push_str(WORDS[any(8) as usize]);
-        }
-        paginated(&target, 10 + any(5000))
-    };
-    (0..500).map(|_| header()).collect()
 }
 
 /// Links whose values are addresses, between such quotes: with none the older edition alone reads them.

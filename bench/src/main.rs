@@ -4,6 +4,7 @@
 mod clock;
 mod comparing;
 mod contenders;
+mod different;
 mod editions;
 mod entries;
 mod feeding;
