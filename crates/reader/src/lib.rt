@@ -74,43 +74,24 @@ pub fn read_in(
         return ReadAnswer::Refused(Refusal::TooLong);
     }
     let any = (n % 65536) as u16;
+    if n <= 128 {
+        let mut ls = [any; 4 * LINK_SLOTS];
+        let mut ps = [any; 8 * PARAM_SLOTS];
+        return read_noting(&classes, edition, header, &mut ls, &mut ps, links, params);
+    }
     if n <= 512 {
-        let mut link_notes = [any; 16 * LINK_SLOTS];
-        let mut param_notes = [any; 32 * PARAM_SLOTS];
-        return read_noting(
-            &classes,
-            edition,
-            header,
-            &mut link_notes,
-            &mut param_notes,
-            links,
-            params,
-        );
+        let mut ls = [any; 16 * LINK_SLOTS];
+        let mut ps = [any; 32 * PARAM_SLOTS];
+        return read_noting(&classes, edition, header, &mut ls, &mut ps, links, params);
     }
     if n <= 1024 {
-        let mut link_notes = [any; 24 * LINK_SLOTS];
-        let mut param_notes = [any; 64 * PARAM_SLOTS];
-        return read_noting(
-            &classes,
-            edition,
-            header,
-            &mut link_notes,
-            &mut param_notes,
-            links,
-            params,
-        );
+        let mut ls = [any; 24 * LINK_SLOTS];
+        let mut ps = [any; 64 * PARAM_SLOTS];
+        return read_noting(&classes, edition, header, &mut ls, &mut ps, links, params);
     }
-    let mut link_notes = [any; 64 * LINK_SLOTS];
-    let mut param_notes = [any; 256 * PARAM_SLOTS];
-    read_noting(
-        &classes,
-        edition,
-        header,
-        &mut link_notes,
-        &mut param_notes,
-        links,
-        params,
-    )
+    let mut ls = [any; 128 * LINK_SLOTS];
+    let mut ps = [any; 256 * PARAM_SLOTS];
+    read_noting(&classes, edition, header, &mut ls, &mut ps, links, params)
 }
 
 // In the edition of this number, if there is one.

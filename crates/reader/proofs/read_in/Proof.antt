@@ -68,6 +68,24 @@ same-length-6 c = search needs
 returns-4 : tie.Need-returns-4
 returns-4 c = search needs
 
+slice-aggregate-read-noting-7 : tie.Need-slice-aggregate-read-noting-7
+slice-aggregate-read-noting-7 c = search needs
+
+slice-aggregate-read-noting-8 : tie.Need-slice-aggregate-read-noting-8
+slice-aggregate-read-noting-8 c = search needs
+
+read-noting-requires-4 : tie.Need-read-noting-requires-4
+read-noting-requires-4 c κs = search needs
+
+same-length-7 : tie.Need-same-length-7
+same-length-7 c = search needs
+
+same-length-8 : tie.Need-same-length-8
+same-length-8 c = search needs
+
+returns-5 : tie.Need-returns-5
+returns-5 c = search needs
+
 pub read-in-spec : {M : Type 1} → statement M
 read-in-spec =
     tie.close
@@ -92,4 +110,10 @@ read-in-spec =
     read-noting-requires-3
     same-length-5
     same-length-6
-    returns-4)
+    returns-4
+    slice-aggregate-read-noting-7
+    slice-aggregate-read-noting-8
+    read-noting-requires-4
+    same-length-7
+    same-length-8
+    returns-5)
