@@ -3,5 +3,3 @@ pub mod PartOfReading
 pub mod ParamsWritten
 pub mod OneLinkWritten
 pub mod LinksWritten
-pub mod SmallRecords
-pub mod FromNotes

@@ -21,12 +21,11 @@ use Rattle.grammar.specs.Records.{
   paramRoom,
 }
 use Rattle.grammar.specs.Machine.{opened, target}
-use Rattle.kinds.specs.declared.Counts.{Counts}
 use Rattle.records.specs.declared.ParamRecord.{ParamRecord}
 use Rattle.records.specs.Slots.{paramNumbers}
 use Rattle.cursor.specs.Passed.{Passed}
 use Rattle.scan_parts.specs.Stands.{Stands, Ready}
-use Rattle.scanner.specs.Linked.{Chain, WholeLink, CountsOf, ReadingNoted}
+use Rattle.scanner.specs.Linked.{Chain, WholeLink}
 
 -- there is room for the header's reading
 pub record ReadingFits (extra : Extra) (s L P : List ℕ) : Type 0 where
@@ -86,10 +85,3 @@ pub record LinkFilled (extra : Extra) (s : List ℕ) (a j n m k : ℕ) (L L′ P
   pub next : k ≡ m + count
   pub links-written : L′ ≡ sets L (linkWidth * n) (a ∷ link .close ∷ m ∷ count ∷ [])
   pub params-written : P′ ≡ sets P (paramWidth * m) (recordsOf s (keepAfter s [] (reverse (link .rest .params))))
-
--- the counts n are those of the header's reading, and its records are noted as far as there is room
-pub record HeaderNoted (extra : Extra) (s : List ℕ) (n : Counts) (L P : List ℕ) : Type 0 where
-  pub counts : CountsOf extra s n
-  pub links-before : List ℕ
-  pub params-before : List ℕ
-  pub noted : ReadingNoted s (counts .reading) links-before L params-before P

@@ -1,61 +1,15 @@
-// Reads a header into lent tables. The whole header is judged, counted and noted, the rooms are tested once, and then the records are
-// filled in; so a refusal leaves both tables as they were.
-ghost use Prim.Native.Nat.{_≤_};
-ghost use lib.ListN.{length};
-ghost use Rattle.octet_classes.specs.Classes.{Classes};
-ghost use Rattle.outcomes.specs.Number.{limit};
+// Reads a header into lent tables, with notes for as many records as a header of its length mostly has.
 ghost use Rattle.outcomes.specs.Read.{Read, ReadIn};
 ghost use Rattle.answers.specs.Read.{readNumbers, readOut};
 use answers::LIMIT;
 use answers::Refusal;
 use answers::read_answer::ReadAnswer;
-use filling::fill;
 use octets::editions::Asked;
 use octets::editions::Edition;
 use octets::editions::edition_of;
+use reading::read_noting;
 use records::LINK_SLOTS;
 use records::PARAM_SLOTS;
-use scanner::HeaderScan;
-
-// Judges the header, with notes of its records, tests the rooms, and fills.
-fn read_noting(
-    classes: &[u8; 256],
-    edition: Edition,
-    header: &[u8],
-    link_notes: &mut [u16],
-    param_notes: &mut [u16],
-    links: &mut [usize],
-    params: &mut [usize],
-) -> ReadAnswer
-    requires { ⌜ (length (now header) ≤ limit) × Classes (now classes) ⌝ }
-    ensures { λ r. ⌜ ReadIn edition (now (header .entry)) (now (links .entry)) (now (params .entry))
-        (readOut (readNumbers r) (now (links .exit)) (now (params .exit))) ⌝ }
-{
-    match scanner::header::scan(classes, edition, header, link_notes, param_notes) {
-        HeaderScan::Malformed(p) => ReadAnswer::Malformed(p),
-        HeaderScan::Counted(counts) => {
-            let link_room = records::link_room(links);
-            let param_room = records::param_room(params);
-            if link_room < counts.links {
-                return ReadAnswer::Refused(Refusal::NoLinkRoom);
-            }
-            if param_room < counts.params {
-                return ReadAnswer::Refused(Refusal::NoParamRoom);
-            }
-            fill(
-                classes,
-                edition,
-                header,
-                counts,
-                link_notes,
-                param_notes,
-                links,
-                params,
-            );
-            ReadAnswer::Done(counts)
-        }
-    }
-}
 
 // In an edition that is known. Short headers get fewer notes, since making them takes time too: of the links and parameters that headers of
 // their length mostly have. Notes are made of a number that the compiler doesn't know: of zeros it would make a call of the C library.

@@ -1,9 +1,9 @@
 -- Each return is one case of the outcome.
 use native.Mathlib.Omega.{arith}
-use Rattle.reader.proofs.ScanToOutcome.{is-malformed, few-link-slots, few-param-slots, fits, noted, is-done}
+use Rattle.reading.proofs.ScanToOutcome.{is-malformed, few-link-slots, few-param-slots, fits, noted, is-done}
 use borrow.Author.Needs.{needs}
-use Rattle.reader.proofs.read_noting.Statement.{statement}
-use Rattle.reader.proofs.read_noting.Tie as tie
+use Rattle.reading.proofs.read_noting.Statement.{statement}
+use Rattle.reading.proofs.read_noting.Tie as tie
 
 scan-requires : tie.Need-scan-requires
 scan-requires c κs = search needs

@@ -20,7 +20,8 @@ use Rattle.answers.specs.Read.{readNumbers, readOut}
 use Rattle.scanner.specs.declared.HeaderScan.{HeaderScan}
 use Rattle.scanner.specs.declared.HeaderScan.the-variants.{Malformed, Counted}
 use Rattle.scanner.specs.Linked.{CountsOf, HeaderScanned, malformed-at, counted}
-use Rattle.filling.specs.Filling.{ReadingFits, TablesFilled, HeaderNoted}
+use Rattle.filling.specs.Filling.{ReadingFits, TablesFilled}
+use Rattle.noted_fill.specs.HeaderNoted.{HeaderNoted}
 
 -- an answer, with what both tables hold afterwards
 abbrev out : ReadAnswer → List ℕ → List ℕ → ReadOut

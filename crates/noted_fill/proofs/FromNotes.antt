@@ -14,8 +14,9 @@ use Rattle.grammar.proofs.Readings.{one-reading}
 use Rattle.tables.proofs.Filled.{link-records-length, param-records-length}
 use Rattle.kinds.specs.declared.Counts.{Counts}
 use Rattle.notes.proofs.Copied.{copied}
-use Rattle.filling.specs.Filling.{ReadingFits, TablesFilled, HeaderNoted}
-use Rattle.filling.proofs.SmallRecords.{small-links, small-params}
+use Rattle.filling.specs.Filling.{ReadingFits, TablesFilled}
+use Rattle.noted_fill.specs.HeaderNoted.{HeaderNoted}
+use Rattle.noted_fill.proofs.SmallRecords.{small-links, small-params}
 
 module _ (ed : Edition) {s : List ℕ} {n : Counts} {L P A B : List ℕ} (fits : ReadingFits (further ed) s A B)
     (h : HeaderNoted (further ed) s n L P) where

@@ -1,0 +1,3 @@
+-- Laws of filling from notes.
+pub mod SmallRecords
+pub mod FromNotes

@@ -1,0 +1,2 @@
+-- What the crate `noted_fill` asks.
+pub mod HeaderNoted
