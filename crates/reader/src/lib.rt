@@ -43,8 +43,8 @@ pub fn read_in(
         let mut ps = [any; 64 * PARAM_SLOTS];
         return read_noting(&classes, edition, header, &mut ls, &mut ps, links, params);
     }
-    let mut ls = [any; 128 * LINK_SLOTS];
-    let mut ps = [any; 256 * PARAM_SLOTS];
+    let mut ls = [any; 160 * LINK_SLOTS];
+    let mut ps = [any; 320 * PARAM_SLOTS];
     read_noting(&classes, edition, header, &mut ls, &mut ps, links, params)
 }
 

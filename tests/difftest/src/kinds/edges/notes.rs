@@ -8,8 +8,8 @@ use crate::run::Run;
 
 /// The lengths up to which there are so many notes, and one of those that have the most.
 const LENGTHS: [usize; 4] = [128, 512, 1024, 2048];
-const LINKS: [usize; 4] = [4, 16, 24, 128];
-const PARAMS: [usize; 4] = [8, 32, 64, 256];
+const LINKS: [usize; 4] = [4, 16, 24, 160];
+const PARAMS: [usize; 4] = [8, 32, 64, 320];
 
 pub fn compare(run: &mut Run) -> Compared<()> {
     for length in LENGTHS.into_iter().flat_map(|n| [n, n + 1]) {
