@@ -1,17 +1,16 @@
 -- The links written so far: between two of them both tables hold the records of those read.
 use Prim.Native.Nat.{ℕ, suc, _+_, _*_, _/_, _≤_, _<_}
 use native.Mathlib.Omega.{arith}
-use native.Mathlib.Nat.{zero-add}
 use native.Mathlib.Numerals.{add-one}
 use mathlib.Core.Path.{_≡_, refl, sym, ap, ap₂, subst, _∙_}
 use mathlib.Core.Bool.{Bool, true, false, true≢false}
-use mathlib.Core.List.{List, [], _∷_, _++_, map, map-append, reverse, reverse-cons, append-nil}
+use mathlib.Core.List.{List, [], _∷_, _++_, map, reverse}
 use lib.Dec.{eqb}
 use lib.ListN.{length, drop, getD, length-map}
 use lib.Seq.{sets, length-sets}
 use borrow.Author.Tests.{eqb-true}
 use Rattle.octets.specs.Sets.{isBlank}
-use Rattle.grammar.specs.Link.{Link, Param}
+use Rattle.grammar.specs.Link.{Link}
 use Rattle.grammar.specs.Grammar.{Extra, Admissible, At, Field}
 use Rattle.grammar.specs.Targets.{References}
 use Rattle.grammar.specs.Kept.{keptLink, keepAfter, Reading}
@@ -28,24 +27,13 @@ use Rattle.grammar.specs.Records.{
 use Rattle.grammar.specs.Machine.{State, gap, target, step, dead}
 use Rattle.grammar.proofs.Rest.{Rest}
 use Rattle.grammar.proofs.Readings.{one-derived, one-reading}
-use Rattle.grammar.proofs.Joining.{link-records-append, param-records-append}
 use Rattle.tables.proofs.Filled.{link-records-length, param-records-length}
 use Rattle.kinds.proofs.Stores.{sets-append, sets-front}
 use Rattle.cursor.specs.Passed.{Passed}
 use Rattle.scan_parts.specs.Stands.{Stands}
 use Rattle.scan_parts.proofs.Standing.{stands-start, stands-step, finishes}
 use Rattle.scanner.proofs.ReadyBehindLink.{linkOf, link-ready, link-forward}
-use Rattle.scanner.proofs.BetweenLinks.{
-  ordered,
-  ordered-length,
-  ordered-count,
-  gap-blanks,
-  gap-comma,
-  target-begins,
-  link-last,
-  link-comma,
-  kept-with,
-}
+use Rattle.scanner.proofs.BetweenLinks.{ordered, gap-blanks, gap-comma, target-begins, link-last, link-comma, kept-with}
 use Rattle.scanner.proofs.LinksInOrder.{link-slot, param-slot, links-more, params-more}
 use Rattle.filling.specs.Filling.{ReadingFits, BeforeLink, LinkFilled, TablesFilled}
 use Rattle.filling.proofs.PartOfReading.{stands-rest, rest-alive, part-links}

@@ -8,7 +8,7 @@ use lib.Seq.{sets}
 use Rattle.octets.specs.Editions.{further}
 use Rattle.octets.specs.declared.editions.Edition.{Edition}
 use Rattle.grammar.specs.Link.{Link}
-use Rattle.grammar.specs.Records.{linkWidth, paramWidth, linkRoom, paramRoom, countParams, linkRecords, paramRecords}
+use Rattle.grammar.specs.Records.{linkWidth, paramWidth, countParams, linkRecords, paramRecords}
 use Rattle.grammar.proofs.Editions.{apart}
 use Rattle.grammar.proofs.Readings.{one-reading}
 use Rattle.tables.proofs.Filled.{link-records-length, param-records-length}

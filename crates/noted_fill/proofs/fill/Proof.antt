@@ -34,7 +34,8 @@ returns c =
     let b1 = c .before .before .before .before .before .before .before in
     let b2 = b1 .before .before .before in
     let b3 = b2 .before .before .before .before .before .before .before .before .before in
-    filled-from-notes (b3 .args .edition) (b3 .pre .0 .0) (b3 .pre .1 .0) (b3 .pre .1 .1) (b2 .before .before .if1 .taken) (b2 .if2 .taken) (b1 .copy .ensures) (c .before .before .copy2 .ensures)
+    filled-from-notes (b3 .args .edition) (b3 .pre .0 .0) (b3 .pre .1 .0) (b3 .pre .1 .1) (b2 .before .before .if1 .taken) (b2 .if2
+    .taken) (b1 .copy .ensures) (c .before .before .copy2 .ensures)
 
 fill-requires : tie.Need-fill-requires
 fill-requires c κs = search needs

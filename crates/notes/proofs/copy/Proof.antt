@@ -2,8 +2,8 @@
 use Prim.Native.Nat.{ℕ, _-_}
 use native.Mathlib.Omega.{arith}
 use native.Mathlib.Nat.{zero-add}
-use mathlib.Core.Path.{ap, _∙_, subst}
-use lib.ListN.{length, take, getD, set}
+use mathlib.Core.Path.{ap, _∙_}
+use lib.ListN.{take}
 use lib.Seq.{sets}
 use mir.Facts.{fits-widen}
 use borrow.Author.Needs.{needs}

@@ -25,11 +25,17 @@ same-length : tie.Need-same-length
 same-length c = search needs
 
 returns-2 : tie.Need-returns-2
-returns-2 c = rw (c .before .before .before .before .before .before .before .before .before .if1 .left) (noted-put (c .before .before .before .before .before .before .numbers .ensures) (c .before .before .put .ensures))
+returns-2 c =
+    rw (c .before .before .before .before .before .before .before .before .before .if1 .left) (noted-put (c .before .before .before
+    .before .before .before .numbers .ensures) (c .before .before .put .ensures))
 
 returns-3 : tie.Need-returns-3
 returns-3 c =
-    rw (c .before .before .if1 .left) (noted-out (paramNumbers (c .before .before .before .before .args .r)) (omega (arith, c .if2 .left)))
+    rw (c .before .before .if1 .left) (noted-out (paramNumbers (c .before .before .before .before .args .r)) (omega (
+      arith,
+      c .if2
+          .left,
+    )))
 
 pub note-param-spec : {M : Type 1} → statement M
 note-param-spec =

@@ -1,10 +1,8 @@
 -- One number at each turn.
-use Prim.Native.Nat.{_-_}
+use Prim.Native.Nat.{ℕ, _-_}
 use native.Mathlib.Omega.{arith}
 use mathlib.Core.Path.{ap, _∙_}
 use mathlib.Core.List.{List, map}
-use Prim.Native.Nat.{ℕ}
-use lib.ListN.{length}
 use lib.Seq.{sets, take-length}
 use borrow.Author.Needs.{needs}
 use Rattle.notes.specs.Noted.{low}

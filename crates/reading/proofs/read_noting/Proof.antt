@@ -58,7 +58,8 @@ returns-2 c =
     let b2 = b1 .before .before .before .before .before in
     let b3 = b2 .before .before .before .before .before .before in
     let b4 = b3 .before .before .before .before .before .before .before .before in
-    few-param-slots _ _ _ (b4 .pre .0) (b3 .scan .ensures) (b2 .counts .given .1) (b1 .before .before .link-room .ensures) (b1 .param-room .ensures) (c .before .before .if1 .left) (c .if2 .taken)
+    few-param-slots _ _ _ (b4 .pre .0) (b3 .scan .ensures) (b2 .counts .given .1) (b1 .before .before .link-room .ensures) (b1
+    .param-room .ensures) (c .before .before .if1 .left) (c .if2 .taken)
 
 fill-requires : tie.Need-fill-requires
 fill-requires c κs =
@@ -66,8 +67,18 @@ fill-requires c κs =
     let b2 = b1 .before .before .before .before in
     let b3 = b2 .before .before .before .before .before in
     let b4 = b3 .before .before .before .before .before .before in
-    let b5 = b4 .before .before .before .before .before .before .before .before in
-    ((fits (b5 .args .edition) _ _ (b5 .pre .0) (b4 .scan .ensures) (b3 .counts .given .1) (b2 .before .before .link-room .ensures) (b2 .param-room .ensures) (b1 .before .before .if1 .left) (b1 .if2 .left), search needs), (noted (b5 .args .edition) (b5 .args .links .now) (b5 .args .params .now) (b5 .pre .0) (b4 .scan .ensures) (b3 .counts .given .1), omega (arith, b5 .pre .0)))
+    let b5 = b4 .before .before .before .before .before .before .before .before in (
+      (
+        fits (b5 .args .edition) _ _ (b5 .pre .0) (b4 .scan .ensures) (b3 .counts .given .1) (b2 .before .before .link-room .ensures)
+            (b2 .param-room .ensures) (b1 .before .before .if1 .left) (b1 .if2 .left),
+        search needs,
+      ),
+      (
+        noted (b5 .args .edition) (b5 .args
+            .links .now) (b5 .args .params .now) (b5 .pre .0) (b4 .scan .ensures) (b3 .counts .given .1),
+        omega (arith, b5 .pre .0),
+      ),
+    )
 
 same-length-9 : tie.Need-same-length-9
 same-length-9 c = search needs
@@ -101,7 +112,8 @@ returns-4 c =
     let b4 = b3 .before .before .before .before .before in
     let b5 = b4 .before .before .before .before .before .before in
     let b6 = b5 .before .before .before .before .before .before .before .before in
-    is-done _ _ _ (b6 .pre .0) (b5 .scan .ensures) (b4 .counts .given .1) (b3 .before .before .link-room .ensures) (b3 .param-room .ensures) (b2 .before .before .if1 .left) (b2 .if2 .left) (b1 .fill .ensures)
+    is-done _ _ _ (b6 .pre .0) (b5 .scan .ensures) (b4 .counts .given .1) (b3 .before .before .link-room .ensures) (b3 .param-room
+    .ensures) (b2 .before .before .if1 .left) (b2 .if2 .left) (b1 .fill .ensures)
 
 pub read-noting-spec : {M : Type 1} → statement M
 read-noting-spec =

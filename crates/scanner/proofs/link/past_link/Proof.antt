@@ -22,8 +22,17 @@ past-octet-requires c κs =
 past-params-requires : tie.Need-past-params-requires
 past-params-requires c κs =
     let b1 = c .before .before .before in
-    let b2 = b1 .before .before .before .before .before .before in
-    (omega (arith, c .before .past-octet .ensures, target-inside (b1 .before .before .past-target .ensures) (b1 .c .given .1)), omega (arith, c .before .past-octet .ensures, b2 .pre .1, target-forward (b1 .before .before .past-target .ensures) (b1 .c .given .1)), search needs)
+    let b2 = b1 .before .before .before .before .before .before in (
+      omega (arith, c .before .past-octet .ensures, target-inside (b1 .before .before .past-target .ensures) (b1 .c .given .1)),
+      omega (
+        arith,
+        c .before .past-octet .ensures,
+        b2 .pre .1,
+        target-forward (b1 .before .before .past-target .ensures) (b1 .c
+            .given .1),
+      ),
+      search needs,
+    )
 
 enum-known-scan : tie.Need-enum-known-scan
 enum-known-scan c = search needs
@@ -54,7 +63,9 @@ returns-2 c =
     let b2 = b1 .before .before .before .before .before .before in
     let b3 = b2 .before .before .before .before in
     let b4 = b3 .before .before .before .before .before .before in
-    link-passed (b3 .before .before .past-target .ensures) (b3 .c .given .1) (b2 .before .before .past-octet .ensures) (b2 .past-params .ensures) (b4 .args .n .0) (b1 .before .before .scan .given .1) (b1 .span-to .ensures) (c .before .before .note-link .ensures)
+    link-passed (b3 .before .before .past-target .ensures) (b3 .c .given .1) (b2 .before .before .past-octet .ensures) (b2
+    .past-params .ensures) (b4 .args .n .0) (b1 .before .before .scan .given .1) (b1 .span-to .ensures) (c .before .before
+    .note-link .ensures)
 
 same-length-3 : tie.Need-same-length-3
 same-length-3 c = search needs
@@ -63,7 +74,8 @@ returns-3 : tie.Need-returns-3
 returns-3 c =
     let b1 = c .before .before .before .before in
     let b2 = b1 .before .before .before .before in
-    params-stuck (b2 .before .before .past-target .ensures) (b2 .c .given .1) (b1 .before .before .past-octet .ensures) (b1 .past-params .ensures) (c .enum-told .given .1)
+    params-stuck (b2 .before .before .past-target .ensures) (b2 .c .given .1) (b1 .before .before .past-octet .ensures) (b1
+    .past-params .ensures) (c .enum-told .given .1)
 
 pub past-link-spec : {M : Type 1} → statement M
 past-link-spec =

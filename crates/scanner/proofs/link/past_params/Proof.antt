@@ -14,7 +14,9 @@ use Rattle.scanner.proofs.link.past_params.Statement.{statement}
 use Rattle.scanner.proofs.link.past_params.Tie as tie
 
 abbrev Inv-loop : tie.InvT-loop
-Inv-loop classes edition s notes₀ m c₀ kept₀ seen₀ notes c kept seen = (params : List Param) × ParamsSoFar (further edition) s (c₀ .at .0) (c .at .0) kept seen params × KeptNoted s (m .0) params notes₀ notes
+Inv-loop classes edition s notes₀ m c₀ kept₀ seen₀ notes c kept seen =
+    (params : List Param) × ParamsSoFar (further edition) s (c₀ .at .0) (c .at .0) kept seen params × KeptNoted s (m .0) params
+    notes₀ notes
 
 abbrev μ-loop : tie.MeasureT-loop
 μ-loop classes edition s notes₀ m c₀ kept₀ seen₀ notes c kept seen = length s - c .at .0
@@ -51,7 +53,8 @@ same-length-2 c =
 returns-2 : tie.Need-returns-2 Inv-loop μ-loop
 returns-2 c =
     let b1 = c .before .before .before .before in
-    params-ended (b1 .before .loop .inv .1) (b1 .before .loop .inv .2) (b1 .past-blanks .ensures) (inr ((c .before .sees .ensures .yes) (c .if2 .taken)))
+    params-ended (b1 .before .loop .inv .1) (b1 .before .loop .inv .2) (b1 .past-blanks .ensures) (inr ((c .before .sees .ensures
+    .yes) (c .if2 .taken)))
 
 sees-requires-2 : tie.Need-sees-requires-2 Inv-loop μ-loop
 sees-requires-2 c κs = search needs
@@ -65,7 +68,8 @@ returns-3 : tie.Need-returns-3 Inv-loop μ-loop
 returns-3 c =
     let b1 = c .before .before .before in
     let b2 = b1 .before .before .before .before in
-    neither (b2 .before .loop .inv .1) (b2 .past-blanks .ensures) (b1 .before .before .if1 .left) (b1 .before .sees .ensures) (b1 .if2 .left) (c .before .before .sees2 .ensures) (c .before .if3 .taken)
+    neither (b2 .before .loop .inv .1) (b2 .past-blanks .ensures) (b1 .before .before .if1 .left) (b1 .before .sees .ensures) (b1
+    .if2 .left) (c .before .before .sees2 .ensures) (c .before .if3 .taken)
 
 past-octet-requires : tie.Need-past-octet-requires Inv-loop μ-loop
 past-octet-requires c κs = search needs
@@ -76,7 +80,8 @@ past-blanks-requires-2 c κs =
     (omega (arith, c .past-octet .ensures, b1 .if1 .left), search needs)
 
 past-param-requires : tie.Need-past-param-requires Inv-loop μ-loop
-past-param-requires c κs = (record { inside = c .past-blanks2 .ensures .inside; clear = c .past-blanks2 .ensures .stops }, search needs)
+past-param-requires c κs =
+    (record { inside = c .past-blanks2 .ensures .inside; clear = c .past-blanks2 .ensures .stops }, search needs)
 
 enum-known-p : tie.Need-enum-known-p Inv-loop μ-loop
 enum-known-p c = search needs
@@ -91,7 +96,9 @@ returns-4 c =
     let b1 = c .before .before .before in
     let b2 = b1 .before .before .before in
     let b3 = b2 .before .before .before .before .before .before in
-    param-stuck (b3 .before .loop .inv .1) (b3 .past-blanks .ensures) ((b2 .before .sees2 .ensures .yes) (not-false (b2 .before .sees2 .result) (b2 .if3 .left))) (b1 .before .before .past-octet .ensures) (b1 .before .past-blanks2 .ensures) (b1 .past-param .ensures) (c .before .p .given .1)
+    param-stuck (b3 .before .loop .inv .1) (b3 .past-blanks .ensures) ((b2 .before .sees2 .ensures .yes) (not-false (b2 .before
+    .sees2 .result) (b2 .if3 .left))) (b1 .before .before .past-octet .ensures) (b1 .before .past-blanks2 .ensures) (b1 .past-param
+    .ensures) (c .before .p .given .1)
 
 enum-known-parts : tie.Need-enum-known-parts Inv-loop μ-loop
 enum-known-parts c = search needs
@@ -109,17 +116,33 @@ plus-requires c κs =
     let b1 = c .before .before .before .before .before .before .before .before .before .before .before .before .before .before in
     let b2 = b1 .before .before .before in
     let b3 = b2 .before .before .before .before in
-    omega (arith, few-so-far (b2 .loop .inv .1), b3 .pre .1, b1 .before .before .past-blanks .ensures .forward, b1 .if1 .left, b3 .good .1 .1 .0)
+    omega (
+      arith,
+      few-so-far (b2 .loop .inv .1),
+      b3 .pre .1,
+      b1 .before .before .past-blanks .ensures .forward,
+      b1 .if1 .left,
+      b3
+          .good .1 .1 .0,
+    )
 
 note-param-requires : tie.Need-note-param-requires Inv-loop μ-loop
 note-param-requires c κs = search needs
 
 counted-requires : tie.Need-counted-requires Inv-loop μ-loop
 counted-requires c κs =
-    let b1 = c .before .before .before .before .before .before .before .before .before .before .before .before .before .before .before .before .before .before in
+    let b1 = c .before .before .before .before .before .before .before .before .before .before .before .before .before .before
+    .before .before .before .before in
     let b2 = b1 .before .before .before in
     let b3 = b2 .before .before .before .before in
-    omega (arith, few-so-far (b2 .loop .inv .1), b1 .before .before .past-blanks .ensures .forward, b1 .if1 .left, b3 .good .1 .1 .0)
+    omega (
+      arith,
+      few-so-far (b2 .loop .inv .1),
+      b1 .before .before .past-blanks .ensures .forward,
+      b1 .if1 .left,
+      b3 .good .1 .1
+          .0,
+    )
 
 with-requires : tie.Need-with-requires Inv-loop μ-loop
 with-requires c κs = search needs
@@ -129,7 +152,17 @@ loop-less c =
     let b1 = c .before .before .before .before .before .before .before .before .before .before .before in
     let b2 = b1 .before .before .before in
     let b3 = b2 .before .before .before .before .before .before in
-    omega (arith, param-inside (b1 .before .before .past-param .ensures) (b1 .parts .given .1) .0, param-inside (b1 .before .before .past-param .ensures) (b1 .parts .given .1) .1, b3 .before .before .past-blanks .ensures .forward, b2 .before .past-octet .ensures, b2 .past-blanks2 .ensures .forward, b3 .if1 .left)
+    omega (
+      arith,
+      param-inside (b1 .before .before .past-param .ensures) (b1 .parts .given .1) .0,
+      param-inside (b1 .before .before
+          .past-param .ensures) (b1 .parts .given .1) .1,
+      b3 .before .before .past-blanks .ensures .forward,
+      b2 .before .past-octet
+          .ensures,
+      b2 .past-blanks2 .ensures .forward,
+      b3 .if1 .left,
+    )
 
 loop-again : tie.Need-loop-again Inv-loop μ-loop
 loop-again c =
@@ -139,8 +172,15 @@ loop-again c =
     let b4 = b3 .before .before .before in
     let b5 = b4 .before .before .before in
     let b6 = b5 .before .before .before .before .before in
-    let b7 = b6 .before .before .before .before .before in
-    (_, more (b6 .before .loop .inv .1) (b6 .past-blanks .ensures) ((b5 .sees2 .ensures .yes) (not-false (b5 .sees2 .result) (b4 .before .before .if3 .left))) (b4 .before .past-octet .ensures) (b4 .past-blanks2 .ensures) (b3 .before .before .past-param .ensures) (b3 .parts .given .1) (b2 .before .code .ensures) (b2 .has .ensures) (c .before .counted .ensures) (c .with .ensures), one-noted (b7 .args .s .now) (b7 .args .m .0) (b6 .before .loop .inv .0) (b3 .parts .given .0 .0) (b6 .before .loop .inv .2) (b6 .before .loop .inv .1 .kept) (b1 .before .plus .ensures) (b2 .before .code .ensures) (told (b3 .parts .given .0 .0) (b6 .before .loop .inv .1) (b2 .before .code .ensures) (b2 .has .ensures)) (b1 .note-param .ensures))
+    let b7 = b6 .before .before .before .before .before in (
+      _,
+      more (b6 .before .loop .inv .1) (b6 .past-blanks .ensures) ((b5 .sees2 .ensures .yes) (not-false (b5 .sees2 .result) (b4
+          .before .before .if3 .left))) (b4 .before .past-octet .ensures) (b4 .past-blanks2 .ensures) (b3 .before .before .past-param
+          .ensures) (b3 .parts .given .1) (b2 .before .code .ensures) (b2 .has .ensures) (c .before .counted .ensures) (c .with .ensures),
+      one-noted (b7 .args .s .now) (b7 .args .m .0) (b6 .before .loop .inv .0) (b3 .parts .given .0 .0) (b6 .before .loop .inv .2) (b6
+          .before .loop .inv .1 .kept) (b1 .before .plus .ensures) (b2 .before .code .ensures) (told (b3 .parts .given .0 .0) (b6 .before
+          .loop .inv .1) (b2 .before .code .ensures) (b2 .has .ensures)) (b1 .note-param .ensures),
+    )
 
 pub past-params-spec : {M : Type 1} → statement M
 past-params-spec =
