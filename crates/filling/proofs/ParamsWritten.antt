@@ -4,8 +4,8 @@ use native.Mathlib.Omega.{arith}
 use native.Mathlib.Nat.{add-zero, add-assoc}
 use native.Mathlib.Numerals.{add-one}
 use mathlib.Core.Path.{_≡_, refl, sym, ap, ap₂, subst, _∙_}
-use mathlib.Core.Bool.{Bool, true, false, cond, not, _&&_}
-use mathlib.Core.List.{List, [], _∷_, _++_, map, reverse, append-nil}
+use mathlib.Core.Bool.{Bool, true, false, cond, not}
+use mathlib.Core.List.{List, [], _∷_, _++_, reverse, append-nil}
 use lib.ListN.{length}
 use lib.Seq.{slice, sets, length-sets}
 use borrow.Author.Tests.{not-true}
@@ -13,25 +13,24 @@ use Rattle.octets.specs.Sets.{isBlank}
 use Rattle.octets.specs.Fold.{folded}
 use Rattle.grammar.specs.Link.{Param}
 use Rattle.grammar.specs.Grammar.{Extra, At}
-use Rattle.grammar.specs.Kept.{nameOf, among, isOnce, unless, keepAfter, codeOf}
+use Rattle.grammar.specs.Kept.{keepAfter, codeOf}
 use Rattle.grammar.specs.Records.{paramWidth, paramRoom, recordsOf}
 use Rattle.grammar.specs.Machine.{semi}
 use Rattle.kinds.proofs.Stores.{sets-append}
 use Rattle.records.specs.declared.ParamParts.{ParamParts}
-use Rattle.records.specs.Slots.{toParam, paramNumbers}
+use Rattle.records.specs.Slots.{toParam}
 use Rattle.cursor.specs.Passed.{Passed, Looked}
 use Rattle.names.specs.declared.Seen.{Seen}
 use Rattle.names.specs.Remembers.{noneSeen, hasCode, withCode}
-use Rattle.names.proofs.Seeing.{has-told}
 use Rattle.scan_parts.specs.Stands.{Stands, Ready}
 use Rattle.scan_parts.specs.Scanned.{a-param}
 use Rattle.scan_parts.specs.Parsed.{Parsed}
 use Rattle.scan_parts.proofs.Standing.{stands-run}
-use Rattle.scanner.proofs.KeptMore.{keep-more}
+use Rattle.scanner.proofs.NotedInOrder.{record-numbers, records-more}
 use Rattle.scanner.proofs.ReadyBehindParams.{holding, chain-ready, ready-blanks, ready-semi}
-use Rattle.scanner.proofs.ParamsSoFar.{ParamsSoFar, begin, more}
+use Rattle.scanner.proofs.ParamsSoFar.{ParamsSoFar, begin, told, more}
 use Rattle.known.specs.Known.{KnownParam}
-use Rattle.tables.proofs.Filled.{records-length, records-append}
+use Rattle.tables.proofs.Filled.{records-length}
 use Rattle.filling.specs.Filling.{KeptOnce, BeforeParams, ParamsFilled}
 use Rattle.filling.proofs.PartOfReading.{part-params, ready-ends}
 
@@ -105,35 +104,23 @@ module _ {extra : Extra} {s old : List ℕ} {a m : ℕ} (b : BeforeParams extra 
         let rooms : paramRoom new ≡ paramRoom old = ap (λ (k : ℕ). k / paramWidth) (written-length w) in
         omega (arith, room-here along-more, one, w .number, rooms)
 
-    told : z ≡ (isOnce (nameOf s (toParam r)) && among (map (nameOf s) (w .params)) (nameOf s (toParam r)))
-    unfolding nameOf
-    told = has-told (w .along .seen) (nameOf s (toParam r)) h o
+    abbrev kept : List ℕ
+    kept = recordsOf s (keepAfter s [] (reverse (w .params)))
 
-    kept : List Param
-    kept = keepAfter s [] (reverse (w .params))
+    abbrev numbers : List ℕ
+    numbers = recordsOf s (toParam r ∷ [])
 
-    records-more : (b : Bool)
-        → cond b new (sets new (paramWidth * n) (recordsOf s (toParam r ∷ [])))
-        ≡ sets old (paramWidth * m) (recordsOf s (kept ++ unless b (toParam r) []))
-    unfolding kept
-    records-more true =
-        w .written ∙ ap (λ (ks : List Param). sets old (paramWidth * m) (recordsOf s ks)) (sym (append-nil kept))
-    records-more false =
-        let at : paramWidth * n ≡ paramWidth * m + length (recordsOf s kept) =
-        omega (arith, w .number, w .along .kept, records-length s kept)
+    -- its record is stored behind those before, or left out
+    stored : (b : Bool) → cond b new (sets new (paramWidth * n) numbers) ≡ sets old (paramWidth * m) (kept ++ cond b [] numbers)
+    stored true = w .written ∙ ap (sets old (paramWidth * m)) (sym (append-nil kept))
+    stored false =
+        let at : paramWidth * n ≡ paramWidth * m + length kept =
+        omega (arith, w .number, w .along .kept, records-length s (keepAfter s [] (reverse (w .params))))
         in
-        ap₂ (λ (t : List ℕ) (g : ℕ). sets t g (recordsOf s (toParam r ∷ []))) (w .written) at
-        ∙ sym (sets-append old (paramWidth * m) (recordsOf s kept) (recordsOf s (toParam r ∷ [])))
-        ∙ ap (sets old (paramWidth * m)) (sym (records-append s kept (toParam r ∷ [])))
-
-    -- its record, with the code of its name
-    numbers : paramNumbers (record { parts = r; code = c }) ≡ recordsOf s (toParam r ∷ [])
-    unfolding nameOf
-    numbers = rw h
+        ap₂ (λ (t : List ℕ) (g : ℕ). sets t g numbers) (w .written) at ∙ sym (sets-append old (paramWidth * m) kept numbers)
 
     pub written-on : {n′ : ℕ} {y : Seen} {new′ : List ℕ} → KeptOnce z (record { parts = r; code = c }) n n′ new new′ → y ≡ withCode x c
         → ParamsWritten extra s a m old d n′ y new′
-    unfolding kept
     written-on t y =
         record {
           count = w .count + cond z 0 1;
@@ -141,7 +128,6 @@ module _ {extra : Extra} {s old : List ℕ} {a m : ℕ} (b : BeforeParams extra 
           along = subst (λ (g : Seen). ParamsSoFar extra s a d (w .count + cond z 0 1) g (toParam r ∷ w .params)) (sym y) along-more;
           number = t .next ∙ ap (λ (g : ℕ). g + cond z 0 1) (w .number) ∙ add-assoc m (w .count) (cond z 0 1);
           written =
-              t .written ∙ ap (λ (ns : List ℕ). cond z new (sets new (paramWidth * n) ns)) numbers ∙ records-more z
-              ∙ ap (λ (g : Bool). sets old (paramWidth * m) (recordsOf s (kept ++ unless g (toParam r) []))) told
-              ∙ ap (λ (ks : List Param). sets old (paramWidth * m) (recordsOf s ks)) (sym (keep-more s (toParam r) (w .params)));
+              t .written ∙ ap (λ (ns : List ℕ). cond z new (sets new (paramWidth * n) ns)) (record-numbers s h) ∙ stored z
+              ∙ ap (sets old (paramWidth * m)) (records-more s (toParam r) (w .params) (told r (w .along) h o));
         }

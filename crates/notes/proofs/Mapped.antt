@@ -3,7 +3,7 @@ use Prim.Native.Nat.{ℕ, suc, _+_, _≤_, _<_}
 use native.Mathlib.Omega.{arith}
 use native.Mathlib.Nat.{add-zero, sub-zero}
 use native.Mathlib.Numerals.{add-one}
-use mathlib.Core.Path.{_≡_, refl, sym, ap, subst, _∙_}
+use mathlib.Core.Path.{_≡_, sym, ap, subst, _∙_}
 use mathlib.Core.List.{List, [], _∷_, map}
 use lib.ListN.{length, take, getD, set, length-map}
 use lib.Seq.{slice, slice-empty, slice-cons, length-slice, sets}
@@ -49,7 +49,3 @@ module _ {f : ℕ → ℕ} {s : List ℕ} {e : ℕ} {old : List ℕ} {at : ℕ} 
               (λ (t : ℕ). Putting old at (map f (take e s)) (set new (at + k) (f (getD s k 0))) t (map f (slice (suc k) e s)))
               (add-one (at + k) ∙ sym (omega arith)) (octet (onto (next l) (w .put)));
         })
-
-pub as-it-stands : (v : List ℕ) → map (λ (n : ℕ). n) v ≡ v
-as-it-stands [] = refl
-as-it-stands (c ∷ v) = ap (λ (r : List ℕ). c ∷ r) (as-it-stands v)

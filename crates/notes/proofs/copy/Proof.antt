@@ -3,11 +3,12 @@ use Prim.Native.Nat.{ℕ, _-_}
 use native.Mathlib.Omega.{arith}
 use native.Mathlib.Nat.{zero-add}
 use mathlib.Core.Path.{ap, _∙_}
+use mathlib.Core.List.{map-id}
 use lib.ListN.{take}
 use lib.Seq.{sets}
 use mir.Facts.{fits-widen}
 use borrow.Author.Needs.{needs}
-use Rattle.notes.proofs.Mapped.{PutSoFar, none-put, all-put, slot, one-put, as-it-stands}
+use Rattle.notes.proofs.Mapped.{PutSoFar, none-put, all-put, slot, one-put}
 use Rattle.notes.proofs.copy.Statement.{statement}
 use Rattle.notes.proofs.copy.Tie as tie
 
@@ -53,7 +54,7 @@ returns : tie.Need-returns Inv-loop μ-loop
 returns c =
     let a = c .before .before .args in
     all-put (c .before .loop .inv) (c .loop-test .left)
-    ∙ ap (sets (a .slots .now) 0) (as-it-stands (take (a .count) (a .notes .now)))
+    ∙ ap (sets (a .slots .now) 0) (map-id (take (a .count) (a .notes .now)))
 
 pub copy-spec : {M : Type 1} → statement M
 copy-spec =
