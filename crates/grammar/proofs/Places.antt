@@ -3,13 +3,12 @@ use Prim.Native.Nat.{ℕ, zero, suc, _+_, _≤_, _<_}
 use native.Mathlib.Omega.{arith}
 use native.Mathlib.Decide.{decLt}
 use mathlib.Core.Path.{_≡_, refl, sym, ap, subst, _∙_}
-use mathlib.Core.Bool.{Bool, true, false, true≢false, false≢true}
+use mathlib.Core.Bool.{Bool, true, false, true≢false}
 use mathlib.Core.Logic.{_⊎_, inl, inr}
 use mathlib.Core.List.{List, []}
 use lib.ListN.{length, take}
 use lib.Seq.{slice, take-length}
-use Rattle.rules.specs.Left.{matches}
-use Rattle.rules.proofs.Lefts.{matches-sound, matches-complete}
+use Rattle.rules.proofs.Lefts.{derived-or-not}
 use Rattle.references.specs.Octets.{has}
 use Rattle.references.specs.AppendixA.{URI-reference}
 use Rattle.grammar.specs.Link.{Link}
@@ -37,11 +36,7 @@ use Rattle.grammar.proofs.Closing.{
 
 -- whether a part of a text is a reference
 pub judged : (s : List ℕ) (a k : ℕ) → ReferenceAt s a k ⊎ (ReferenceAt s a k → ⊥)
-judged s a k = go (matches has URI-reference (slice a k s)) refl
-  where
-    go : (b : Bool) → matches has URI-reference (slice a k s) ≡ b → ReferenceAt s a k ⊎ (ReferenceAt s a k → ⊥)
-    go true e = inl (matches-sound has URI-reference (slice a k s) e)
-    go false e = inr (λ r. false≢true (sym e ∙ matches-complete has URI-reference (slice a k s) r))
+judged s a k = derived-or-not has URI-reference (slice a k s)
 
 module _ (extra : Extra) (apart : Admissible extra) where
   pub shut-faulty : {s : List ℕ} {a k : ℕ} → Shut extra s a k → (ReferenceAt s a k → ⊥) → Faulty extra s a k

@@ -12,7 +12,7 @@ use Rattle.references.specs.Components.{marked, ended, before, from, beh
 use Rattle.references.specs.Laws.{NothingLost}
 use Rattle.references.proofs.Cuts.{Stops}
 
-before-from : (cs w : List ℕ) → before cs w ++ from cs w ≡ w
+pub before-from : (cs w : List ℕ) → before cs w ++ from cs w ≡ w
 before-from cs [] = refl
 before-from cs (c ∷ w) = go (oneOf cs c) (before-from cs w)
   where
@@ -73,14 +73,20 @@ fragment-whole (c ∷ w) s = go (eqb c 35) refl s
     go true e s = rw (eqb-true c 35 e) refl
     go false e s = absurd (false≢true s)
 
+-- where a text goes on behind its path and its query, with or without them
+abbrev rest : List ℕ → List ℕ
+rest w = cutMarked (octets "?") (octets "#") (from (octets "?#") w) .rest
+
+pub fragment-left : (w : List ℕ) → marked (octets "#") (behind (octets "#") (rest w)) ≡ rest w
+fragment-left w = fragment-whole (rest w) (query-stops (from (octets "?#") w) (from-stops (octets "?#") w))
+
 pub nothing-lost : NothingLost
 nothing-lost w =
     let s = cutScheme w in
     let a = cutMarked (octets "//") (octets "/?#") (s .rest) in
     let v = from (octets "?#") (a .rest) in
-    let q = cutMarked (octets "?") (octets "#") v in
     rw (
-      fragment-whole (q .rest) (query-stops v (from-stops (octets "?#") (a .rest))),
+      fragment-left (a .rest),
       marked-whole (octets "?") (octets "#") v,
       before-from (octets "?#") (a .rest),
       marked-whole (octets "//") (octets "/?#") (s .rest),

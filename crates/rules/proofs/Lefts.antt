@@ -236,5 +236,12 @@ module _ {S : Type 0} (has : S → ℕ → Bool) where
   pub matches-complete : (r : Rule S) (w : List ℕ) → Derives has r w → matches has r w ≡ true
   matches-complete r w d = tried-complete w (r ∷ []) (inl d)
 
+  pub derived-or-not : (r : Rule S) (w : List ℕ) → Derives has r w ⊎ (Derives has r w → ⊥)
+  derived-or-not r w = go (matches has r w) refl
+    where
+      go : (b : Bool) → matches has r w ≡ b → Derives has r w ⊎ (Derives has r w → ⊥)
+      go true e = inl (matches-sound r w e)
+      go false e = inr (λ d. false≢true (sym e ∙ matches-complete r w d))
+
 pub matches-exact : (S : Type 0) → MatchesExact S
 matches-exact S = record { sound = λ has. matches-sound has; complete = λ has. matches-complete has }
