@@ -1,0 +1,4 @@
+-- Laws of octets without their backslashes.
+pub mod Bare
+pub mod Passing
+pub mod Unescaped

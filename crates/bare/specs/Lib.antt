@@ -1,0 +1,2 @@
+-- What the crate `bare` means by its words.
+pub mod Bare

@@ -1,0 +1,2 @@
+-- What the crate `dot_walk` means by its words.
+pub mod Put

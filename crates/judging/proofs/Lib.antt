@@ -1,0 +1,3 @@
+-- Laws of judging what a part means, and what the answers tell.
+pub mod MeantRun
+pub mod Told

@@ -1,0 +1,2 @@
+-- What the crate `leading_dots` means by its words.
+pub mod Leads

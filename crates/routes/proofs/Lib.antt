@@ -1,0 +1,3 @@
+-- The laws of the crate `routes`.
+pub mod Laying
+pub mod InOrder

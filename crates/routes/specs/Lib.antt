@@ -1,0 +1,2 @@
+-- What the crate `routes` means by its words.
+pub mod Laid

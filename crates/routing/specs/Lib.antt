@@ -1,0 +1,4 @@
+-- What the crate `routing` means by its words.
+pub mod Folders
+pub mod Plans
+pub mod Routed
