@@ -1,5 +1,6 @@
 /*
- * Reads, searches and writes HTTP Link field values (RFC 8288, and the older RFC 5988), and decodes their titles (RFC 8187).
+ * Reads, searches and writes HTTP Link field values (RFC 8288, and the older RFC 5988), decodes their titles (RFC 8187), and resolves
+ * their targets and contexts (RFC 3986).
  *
  * Every function is proved to answer as the definitions in crates/outcomes/specs settle it, the code of a name as that in
  * crates/grammar/specs/Kept.antt does, and a comparison as those in crates/octets/specs/Fold.antt do, for every input; of a feeding's
@@ -26,7 +27,8 @@
  *
  * Targets. What stands between `<` and `>` is a URI-reference by the grammar of RFC 3986, IP literals included, as
  * crates/references/specs/AppendixA.antt has it; in `<>` it is the empty one. `<1:a>` and `<a#b#c>` are malformed: `1:a` has a colon in
- * its first segment and no scheme before it, `a#b#c` has a `#` in its fragment. An `anchor`, any other value and the base are not judged.
+ * its first segment and no scheme before it, `a#b#c` has a `#` in its fragment. An `anchor` and any other value are not judged; where a
+ * context is resolved, an `anchor` and the base are.
  *
  * Editions. In CAPSTAN_RFC8288 a bare value is a token; in CAPSTAN_RFC5988 it may also hold any of `( ) / : < = > ? @ [ ] { }`, and has
  * form 3 if it does. Nothing else differs: what the first edition accepts, the second reads to the same records. Functions over headers
@@ -56,7 +58,10 @@
 extern "C" {
 #endif
 
-/* The most octets of a header, a table's text, a written form or an extended value, and the least of a buffer that gathers a header. */
+/*
+ * The most octets of a header, a table's text, a written form or an extended value, of a reference and a base that are to be resolved,
+ * and of the result; and the least of a buffer that gathers a header.
+ */
 #define CAPSTAN_LIMIT 8192
 
 /* The numbers of one link record, and of one parameter record. */
@@ -71,7 +76,7 @@ enum {
 
 enum {
     CAPSTAN_DONE = 0,
-    CAPSTAN_TOO_LONG = 1,         /* a header, all feeds, a table's text, a written form or an extended value: over CAPSTAN_LIMIT */
+    CAPSTAN_TOO_LONG = 1,         /* one of what CAPSTAN_LIMIT speaks of has more octets; all feeds together, too */
     CAPSTAN_MALFORMED = 2,        /* the header isn't well formed; at a feed, what was fed is wrong, whatever follows */
     CAPSTAN_NO_LINK_ROOM = 3,     /* more links than room */
     CAPSTAN_NO_PARAM_ROOM = 4,    /* more kept parameters than room */
@@ -81,7 +86,9 @@ enum {
     CAPSTAN_NO_SUCH_LINK = 8,     /* the link number is not below the count */
     CAPSTAN_NOT_FOUND = 9,        /* no such parameter, no link has the relation, or the link has no title */
     CAPSTAN_UNKNOWN_EDITION = 10, /* the edition is neither CAPSTAN_RFC8288 nor CAPSTAN_RFC5988 */
-    CAPSTAN_BAD_EXTENDED = 11     /* the extended value is wrong */
+    CAPSTAN_BAD_EXTENDED = 11,    /* the extended value is wrong */
+    CAPSTAN_BAD_BASE = 12,        /* the base is no URI, as one without a scheme is none */
+    CAPSTAN_BAD_REFERENCE = 13    /* the reference, or what the `anchor` means, is no URI-reference */
 };
 
 /* The forms of a parameter's value. */
@@ -248,6 +255,34 @@ capstan_length_answer capstan_title(size_t edition, const uint8_t *text, size_t 
  * Numbers, in order: CAPSTAN_TOO_LONG, CAPSTAN_BAD_EXTENDED, CAPSTAN_NO_OUTPUT_ROOM.
  */
 capstan_length_answer capstan_decode(const uint8_t *value, size_t value_len, uint8_t *out, size_t out_len);
+
+/*
+ * Resolves a reference on a base by RFC 3986, sections 5.2, strict, and 5.3: writes the octets of the target to `out`, and answers how
+ * many there are. The base must be a URI by that grammar, which has a scheme, with its fragment if it has one; the fragment is then
+ * ignored. The reference must be a URI-reference, and may be empty: that gives the base without its fragment. A bad reference on a bad
+ * base is refused for the base.
+ *
+ * Segments `.` and `..` go by section 5.2.4, and none reaches left of the path: `../../../g` on `http://a/b/c/d;p?q` gives `http://a/g`.
+ * `%2e` is no dot. Where the base's path is taken as it is, as by `?y` and `#s`, its dots stay. Nothing else is changed, no case and no
+ * triple, and the result isn't judged again: `.//c` on `a:/b` gives `a://c`, where `c` stands for a host. CAPSTAN_LIMIT octets of room
+ * are always enough.
+ * Numbers, in order: CAPSTAN_TOO_LONG (the reference or the base), CAPSTAN_BAD_BASE, CAPSTAN_BAD_REFERENCE, CAPSTAN_TOO_LONG (the
+ * result), CAPSTAN_NO_OUTPUT_ROOM.
+ */
+capstan_length_answer capstan_resolve(const uint8_t *reference, size_t reference_len, const uint8_t *base, size_t base_len, uint8_t *out,
+                                      size_t out_len);
+
+/*
+ * Writes the resolved context of link number `link` to `out`, and answers its length: what its `anchor` means, the value with the
+ * backslashes of a quoted string taken out, resolved on the base as capstan_resolve says. An `anchor` without a value is the empty
+ * reference. With no `anchor` it is the base without its fragment, dots and all; the base must be a URI then, too. CAPSTAN_LIMIT octets
+ * of room are always enough.
+ * Numbers, in order: CAPSTAN_UNKNOWN_EDITION, CAPSTAN_TOO_LONG (the text or the base), CAPSTAN_BAD_TABLE, CAPSTAN_NO_SUCH_LINK,
+ * CAPSTAN_BAD_BASE, CAPSTAN_BAD_REFERENCE (the `anchor`), CAPSTAN_TOO_LONG (the result), CAPSTAN_NO_OUTPUT_ROOM.
+ */
+capstan_length_answer capstan_resolved_context(size_t edition, const uint8_t *text, size_t text_len, const uint8_t *base, size_t base_len,
+                                               const size_t *links, size_t link_slots, const size_t *params, size_t param_slots,
+                                               size_t link_count, size_t param_count, size_t link, uint8_t *out, size_t out_len);
 
 /*
  * Writes a table to `out` as a header in one fixed form, and answers its length. Links are parted by a comma and a space; each is its

@@ -16,6 +16,8 @@ use Rattle.answers.specs.declared.Refusal.the-variants.{
   NotFound,
   UnknownEdition,
   BadExtended,
+  BadBase,
+  BadReference,
 }
 
 pub no-refusal-is-done : (w : Refusal) → eqb (refusalNumber w) done ≡ false
@@ -29,3 +31,5 @@ no-refusal-is-done NoSuchLink = refl
 no-refusal-is-done NotFound = refl
 no-refusal-is-done UnknownEdition = refl
 no-refusal-is-done BadExtended = refl
+no-refusal-is-done BadBase = refl
+no-refusal-is-done BadReference = refl

@@ -13,6 +13,8 @@ use Rattle.answers.specs.declared.Refusal.the-variants.{
   NotFound,
   UnknownEdition,
   BadExtended,
+  BadBase,
+  BadReference,
 }
 
 abbrev pub refusalNumber : Refusal → ℕ
@@ -26,3 +28,5 @@ refusalNumber NoSuchLink = number.noSuchLink
 refusalNumber NotFound = number.notFound
 refusalNumber UnknownEdition = number.unknownEdition
 refusalNumber BadExtended = number.badExtended
+refusalNumber BadBase = number.badBase
+refusalNumber BadReference = number.badReference

@@ -9,7 +9,7 @@ pub mod length_answer;
 pub mod read_answer;
 pub mod search_answer;
 
-// The most octets of a header, a text, an extended value or a written form.
+// The most octets of a header, a text, an extended value, a written form, a reference, a base or a result.
 pub const LIMIT: usize = 8192;
 
 // The number of an answer that refuses nothing.
@@ -30,6 +30,8 @@ pub enum Refusal {
     NotFound,
     UnknownEdition,
     BadExtended,
+    BadBase,
+    BadReference,
 }
 
 impl Refusal {
@@ -47,6 +49,8 @@ impl Refusal {
             Refusal::NotFound => 9,
             Refusal::UnknownEdition => 10,
             Refusal::BadExtended => 11,
+            Refusal::BadBase => 12,
+            Refusal::BadReference => 13,
         }
     }
 }

@@ -13,6 +13,8 @@ ghost use Rattle.outcomes.specs.Copy.{Copy};
 ghost use Rattle.outcomes.specs.Decode.{Decode};
 ghost use Rattle.outcomes.specs.Feeding.{start, Feeds, Finishes};
 ghost use Rattle.outcomes.specs.Read.{Read};
+ghost use Rattle.outcomes.specs.Resolve.{Resolve};
+ghost use Rattle.outcomes.specs.ResolvedContext.{ResolvedContext};
 ghost use Rattle.outcomes.specs.Search.{Search};
 ghost use Rattle.outcomes.specs.Title.{Titles};
 ghost use Rattle.outcomes.specs.Write.{Write};
@@ -163,6 +165,38 @@ pub extern "C" fn capstan_decode(value: &[u8], out: &mut [u8]) -> LengthNumbers
     ensures { λ r. ⌜ Decode (now (value .entry)) (now (out .entry)) (lengthOut r (now (out .exit))) ⌝ }
 {
     titles::decode(value, out).numbers()
+}
+
+// Writes what a reference gives on a base.
+#[no_mangle]
+pub extern "C" fn capstan_resolve(reference: &[u8], base: &[u8], out: &mut [u8]) -> LengthNumbers
+    ensures { λ r. ⌜
+        Resolve (now (reference .entry)) (now (base .entry)) (now (out .entry)) (lengthOut r (now (out .exit))) ⌝ }
+{
+    resolving::resolve(reference, base, out).numbers()
+}
+
+// Writes the resolved context of a link.
+#[no_mangle]
+pub extern "C" fn capstan_resolved_context(
+    edition: usize,
+    text: &[u8],
+    base: &[u8],
+    links: &[usize],
+    params: &[usize],
+    link_count: usize,
+    param_count: usize,
+    link: usize,
+    out: &mut [u8],
+) -> LengthNumbers
+    ensures { λ r. ⌜
+        ResolvedContext edition
+        (tableOf (now (text .entry)) (now (links .entry)) (now (params .entry)) «link_count» «param_count»)
+        (now (base .entry)) link (now (out .entry)) (lengthOut r (now (out .exit))) ⌝ }
+{
+    let counts = counts_of(link_count, param_count);
+    let number = LinkNumber(link);
+    resolved::resolved_context(edition, text, base, links, params, counts, number, out).numbers()
 }
 
 // Begins a feeding.

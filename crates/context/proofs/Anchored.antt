@@ -37,7 +37,7 @@ module _ {t : Table} {i : ℕ} (u : Usable Rfc5988 t) (l : i < t .linkCount) {r 
   listed-here = listed (u .good) l is
 
   module _ (a : Named) (first : FirstCoded (t .paramSlots) r 2 a) where
-    is-found : anchor t i ≡ found a
+    pub is-found : anchor t i ≡ found a
     is-found =
         ap (named (t .text) (octets "anchor")) (own-params (t .paramSlots) is)
         ∙ by-anchor (t .text) (t .paramSlots) listed-here ∙ first

@@ -1,2 +1,2 @@
 -- What the proofs share.
-mod Anchored
+pub mod Anchored

@@ -33,6 +33,7 @@ use Rattle.outcomes.specs.Read.{ReadOut, filled, ReadIn, too-long, not-derived,
 use Rattle.outcomes.specs.Search.{SearchOut}
 use Rattle.outcomes.specs.Context.{ContextOut}
 use Rattle.outcomes.specs.Copy.{CopyOut, untouched}
+use Rattle.outcomes.specs.ResolvedContext.{ContextIn, long-base, over-table}
 use Rattle.outcomes.specs.Write.{Wrote, writtenForm, no-relation, long-form, no-room, wrote}
 use Rattle.outcomes.proofs.InEdition.{in-known}
 use Rattle.outcomes.proofs.ReadSettled.{read-in}
@@ -314,14 +315,21 @@ pub reads-alike : ReadsAlike
 reads-alike h L P o q a n b = one-answer Rfc5988 (alike (in-known refl a) n) q (in-known refl b)
 
 -- what is answered of a table that is good in the one is answered in the other
+table-alike : {A : Type 0} {t : Table} {refusal : ℕ → A} {Out : A → Type 0} {o : A} → TableIn t refusal Out Rfc8288 o
+    → (o ≡ refusal badTable → ⊥) → TableIn t refusal Out Rfc5988 o
+table-alike (refused (long-text l)) n = refused (long-text l)
+table-alike (refused (not-good s g)) n = absurd (n refl)
+table-alike {t = t} (usable u x) n = usable (record { short = u .short; good = good-alike Rfc8288 t (u .good) }) x
+
 over-alike : {A : Type 0} {t : Table} {refusal : ℕ → A} {Out : A → Type 0} {o : A} → OverTable (numberOf Rfc8288) t refusal Out o
     → (o ≡ refusal badTable → ⊥) → OverTable (numberOf Rfc5988) t refusal Out o
-over-alike {A} {t} {refusal} {Out} d n = go (in-known refl d) n
-  where
-    go : {o : A} → TableIn t refusal Out Rfc8288 o → (o ≡ refusal badTable → ⊥) → OverTable (numberOf Rfc5988) t refusal Out o
-    go (refused (long-text l)) n = known {e = Rfc5988} refl (refused (long-text l))
-    go (refused (not-good s g)) n = absurd (n refl)
-    go (usable u x) n = known {e = Rfc5988} refl (usable (record { short = u .short; good = good-alike Rfc8288 t (u .good) }) x)
+over-alike d n = known {e = Rfc5988} refl (table-alike (in-known refl d) n)
+
+-- a base that is too long comes before the table
+context-alike : {t : Table} {base : List ℕ} {i : ℕ} {out : List ℕ} {o : CopyOut} → ContextIn t base i out Rfc8288 o
+    → (o ≡ untouched out badTable → ⊥) → ContextIn t base i out Rfc5988 o
+context-alike (long-base l) n = long-base l
+context-alike (over-table h z) n = over-table h (table-alike z n)
 
 pub tables-alike : TablesAlike
 tables-alike =
@@ -331,4 +339,6 @@ tables-alike =
       copy = λ t i j out o d n. over-alike d (λ e. n (ap (λ (w : CopyOut). w .number) e));
       write = λ t out o d n. over-alike d (λ e. n (ap (λ (w : CopyOut). w .number) e));
       title = λ t i out o d n. over-alike d (λ e. n (ap (λ (w : CopyOut). w .number) e));
+      resolved-context = λ t base i out o d n. known {e = Rfc5988} refl
+          (context-alike (in-known refl d) (λ e. n (ap (λ (w : CopyOut). w .number) e)));
     }

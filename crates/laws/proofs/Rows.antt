@@ -12,6 +12,7 @@ use Rattle.outcomes.specs.InEdition.{known}
 use Rattle.outcomes.specs.Usable.{Usable, usable, refused, not-good}
 use Rattle.outcomes.specs.Context.{no-such-link, anchored, unanchored}
 use Rattle.outcomes.specs.Copy.{no-such-param, copied}
+use Rattle.outcomes.specs.ResolvedContext.{over-table}
 use Rattle.octets.specs.Sets.{isBlank, isDigit, isLetter, isToken, isPlain, isEscapable, isTarget, isHex, isOlder}
 use Rattle.octets.specs.Fold.{fold, sameFolded}
 use Rattle.octets.specs.Text.{octets}
@@ -112,6 +113,7 @@ is-bad e t short bad =
       copy = λ i j out. known {e = e} refl (refused (not-good short bad));
       write = λ out. known {e = e} refl (refused (not-good short bad));
       title = λ i out. known {e = e} refl (refused (not-good short bad));
+      resolved-context = λ base i out h. known {e = e} refl (over-table h (refused (not-good short bad)));
     }
 
 pub mirror-holds : MirrorHolds

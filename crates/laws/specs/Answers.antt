@@ -19,6 +19,7 @@ use Rattle.outcomes.specs.Context.{ContextOut, Context}
 use Rattle.outcomes.specs.Copy.{CopyOut, Copy}
 use Rattle.outcomes.specs.Write.{Write}
 use Rattle.outcomes.specs.Title.{Titles}
+use Rattle.outcomes.specs.ResolvedContext.{ResolvedContext}
 
 -- ---- joining
 
@@ -177,3 +178,5 @@ pub record TablesAlike : Type 0 where
       → Write (numberOf Rfc5988) t out o
   pub title : (t : Table) (i : ℕ) (out : List ℕ) (o : CopyOut) → Titles (numberOf Rfc8288) t i out o
       → (o .number ≡ badTable → ⊥) → Titles (numberOf Rfc5988) t i out o
+  pub resolved-context : (t : Table) (base : List ℕ) (i : ℕ) (out : List ℕ) (o : CopyOut)
+      → ResolvedContext (numberOf Rfc8288) t base i out o → (o .number ≡ badTable → ⊥) → ResolvedContext (numberOf Rfc5988) t base i out o

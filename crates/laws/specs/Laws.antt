@@ -20,6 +20,7 @@ use Rattle.outcomes.specs.Search.{Search}
 use Rattle.outcomes.specs.Copy.{untouched, holding, Copy}
 use Rattle.outcomes.specs.Write.{Write}
 use Rattle.outcomes.specs.Title.{Titles}
+use Rattle.outcomes.specs.ResolvedContext.{ResolvedContext}
 use Rattle.laws.specs.Row.{recordedTable, RowHolds}
 use Rattle.laws.specs.Marked.{marked}
 use Rattle.laws.specs.Slips.{slips}
@@ -83,6 +84,8 @@ pub record IsBad (e : Edition) (t : Table) : Type 0 where
   pub copy : (i j : ℕ) (out : List ℕ) → Copy (numberOf e) t i j out (untouched out badTable)
   pub write : (out : List ℕ) → Write (numberOf e) t out (untouched out badTable)
   pub title : (i : ℕ) (out : List ℕ) → Titles (numberOf e) t i out (untouched out badTable)
+  pub resolved-context : (base : List ℕ) (i : ℕ) (out : List ℕ) → length base ≤ limit
+      → ResolvedContext (numberOf e) t base i out (untouched out badTable)
 
 -- Of a table with values of form 3: the older edition hands out their octets as they stand, and in RFC 8288's the table is not good.
 pub record MirrorHolds : Type 0 where

@@ -4,6 +4,10 @@ use native.Mathlib.Omega.{arith}
 use native.Mathlib.Decide.{decLe}
 use mathlib.Core.Path.{_≡_}
 use mathlib.Core.Logic.{_⊎_, inl, inr}
+use mathlib.Core.List.{List}
+use Rattle.rules.specs.Rule.{Rule, Derives}
+use Rattle.rules.proofs.Lefts.{derived-or-not}
+use Rattle.references.specs.Octets.{Octets, has}
 use Rattle.outcomes.specs.Laws.{Settled}
 
 -- q is told by X where P holds, and by Y where N does
@@ -14,6 +18,10 @@ pub data Branch {A : Type 0} (P : Type 0) (X : P → A → Type 0) (N : Type 0) 
 -- by X where m is at most n, and else by Y
 abbrev pub Order : {A : Type 0} → ℕ → ℕ → (A → Type 0) → (A → Type 0) → A → Type 0
 Order m n X Y = Branch (m ≤ n) (λ h. X) (n < m) Y
+
+-- by X where the rule r of references derives w, and else by Y
+abbrev pub Derived : {A : Type 0} → Rule Octets → List ℕ → (A → Type 0) → (A → Type 0) → A → Type 0
+Derived r w X Y = Branch (Derives has r w) (λ d. X) (Derives has r w → ⊥) Y
 
 -- an outcome, and no other that Y tells
 abbrev pub Settles : {A : Type 0} → (A → Type 0) → (A → Type 0) → Type 0
@@ -48,6 +56,15 @@ module _ {A : Type 0} {Out : A → Type 0} where
   pub order : {m n : ℕ} {X Y : A → Type 0} → (m ≤ n → Settles Out X) → (n < m → Settles Out Y)
       → Settles Out (Order m n X Y)
   order {m} {n} f g = branch (le-or-lt m n) (λ h l. omega arith) (λ h l q x. x) f g
+
+  -- by whether the rule derives w
+  pub derived : (r : Rule Octets) (w : List ℕ) {X Y : A → Type 0} → (Derives has r w → Settles Out X)
+      → ((Derives has r w → ⊥) → Settles Out Y) → Settles Out (Derived r w X Y)
+  derived r w f g = branch (derived-or-not has r w) (λ d n. n d) (λ d e q x. x) f g
+
+  -- as X settles it
+  pub as-settled : {X : A → Type 0} → ((q : A) → X q → Out q) → Settled X → Settles Out X
+  as-settled gives (o, x, one) = (o, gives o x, one)
 
   -- where Y tells every outcome
   pub settled : {Y : A → Type 0} → ((q : A) → Out q → Y q) → Settles Out Y → Settled Out

@@ -11,5 +11,7 @@ pub mod CopySettled
 pub mod WriteSettled
 pub mod DecodeSettled
 pub mod TitleSettled
+pub mod ResolveSettled
+pub mod ResolvedContextSettled
 pub mod Refusing
 pub mod FeedSettled

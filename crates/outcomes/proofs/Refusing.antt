@@ -7,7 +7,9 @@ use lib.ListN.{length, drop}
 use lib.Seq.{drop-at, drop-append-seam}
 use Rattle.octets.specs.declared.editions.Edition.{Edition}
 use Rattle.grammar.specs.Records.{linkWidth, paramWidth, linkRecords, paramRecords, countParams}
+use Rattle.resolution.specs.Resolve.{resolved, unfragmented}
 use Rattle.tables.specs.Table.{Table}
+use Rattle.tables.specs.Meaning.{valueOf}
 use Rattle.tables.proofs.Filled.{link-records-length, param-records-length}
 use Rattle.outcomes.specs.Number.{done}
 use Rattle.outcomes.specs.Read as Reading
@@ -17,10 +19,12 @@ use Rattle.outcomes.specs.Copy as Copying
 use Rattle.outcomes.specs.Write as Writing
 use Rattle.outcomes.specs.Title as Titles
 use Rattle.outcomes.specs.Decode as Decoding
+use Rattle.outcomes.specs.Resolve as Resolving
+use Rattle.outcomes.specs.ResolvedContext as OnBase
 use Rattle.outcomes.specs.Feed as Feeds
 use Rattle.outcomes.specs.Laws.{ReadKeeps, CopyKeeps, FeedKeeps, Refusals, UnknownRefused}
 use Rattle.outcomes.proofs.InEdition.{in-any, in-unknown}
-use Rattle.outcomes.proofs.Usable.{over-any}
+use Rattle.outcomes.proofs.Usable.{table-any, over-any}
 
 -- a refusal whose number is no 0 and no 2
 plainly : (L P : List ℕ) (n : ℕ) → (n ≡ 0 → ⊥) → ReadKeeps L P (Reading.refused L P n 0)
@@ -94,6 +98,30 @@ decoded w out _ (Decoding.wrong h n) = untouched out 11 (λ e. omega arith)
 decoded w out _ (Decoding.no-room h x l) = untouched out 7 (λ e. omega arith)
 decoded w out _ (Decoding.gives {v = v} h x l) = holding out v
 
+fitted : (out v : List ℕ) (o : Copying.CopyOut) → Resolving.Fitted out v o → CopyKeeps out o
+fitted out v _ (Resolving.too-long l) = untouched out 1 (λ e. omega arith)
+fitted out v _ (Resolving.no-room h l) = untouched out 7 (λ e. omega arith)
+fitted out v _ (Resolving.fits h l) = holding out v
+
+resolve : (w base out : List ℕ) (o : Copying.CopyOut) → Resolving.Resolve w base out o → CopyKeeps out o
+resolve w base out _ (Resolving.too-long l) = untouched out 1 (λ e. omega arith)
+resolve w base out _ (Resolving.bad-base h k n) = untouched out 12 (λ e. omega arith)
+resolve w base out _ (Resolving.bad-reference h k u n) = untouched out 13 (λ e. omega arith)
+resolve w base out o (Resolving.resolves h k u r f) = fitted out (resolved base w) o f
+
+context-on : (t : Table) (base : List ℕ) (i : ℕ) (out : List ℕ) (o : Copying.CopyOut)
+    → OnBase.ContextOn t base i out o → CopyKeeps out o
+context-on t base i out _ (OnBase.no-such-link h) = untouched out 8 (λ e. omega arith)
+context-on t base i out _ (OnBase.bad-base h n) = untouched out 12 (λ e. omega arith)
+context-on t base i out _ (OnBase.bad-reference h u a n) = untouched out 13 (λ e. omega arith)
+context-on t base i out o (OnBase.anchored {p = p} h u a r f) = fitted out (resolved base (valueOf (t .text) p)) o f
+context-on t base i out o (OnBase.unanchored h u a f) = fitted out (unfragmented base) o f
+
+context-in : (e : Edition) (t : Table) (base : List ℕ) (i : ℕ) (out : List ℕ) (o : Copying.CopyOut)
+    → OnBase.ContextIn t base i out e o → CopyKeeps out o
+context-in e t base i out _ (OnBase.long-base l) = untouched out 1 (λ e. omega arith)
+context-in e t base i out o (OnBase.over-table h x) = table-any (CopyKeeps out) (untouched out) (context-on t base i out) e o x
+
 -- a feed that is refused with a number that is no 2
 unstored : (buffer : List ℕ) (n : ℕ) → (n ≡ done → ⊥) → FeedKeeps buffer (Feeds.unstored buffer n 0)
 unstored buffer n z = record { refused = λ _. refl; place = λ _. refl }
@@ -118,6 +146,10 @@ refusals =
       write = λ n t out. over-any (CopyKeeps out) (untouched out) (wrote t out);
       title = λ n t i out. over-any (CopyKeeps out) (untouched out) (titled t i out);
       decode = decoded;
+      resolve = resolve;
+      resolved-context =
+          λ n t base i out.
+          in-any (CopyKeeps out) (untouched out 10 (λ e. omega arith)) (λ e. context-in e t base i out);
       feed = λ n fed part buffer. in-any (FeedKeeps buffer) (unstored buffer 10 (λ e. omega arith)) (λ e. feed-in e fed part buffer);
       finish = λ n fed buffer L P. in-any (ReadKeeps L P) (unknown L P) (λ e. finish-in e fed buffer L P);
     }
@@ -131,6 +163,7 @@ unknown-refused =
       copy = λ n z t i j out o d. in-unknown z d;
       write = λ n z t out o d. in-unknown z d;
       title = λ n z t i out o d. in-unknown z d;
+      resolved-context = λ n z t base i out o d. in-unknown z d;
       feed = λ st next z part buffer o d. (ap (λ w. w .0) (in-unknown z d), ap (λ w. w .1) (in-unknown z d));
       finish = λ st z buffer L P o d. in-unknown z d;
     }

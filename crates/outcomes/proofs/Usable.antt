@@ -47,7 +47,7 @@ module _ {e : Edition} {t : Table} where
   no-zero (not-good s g) q = omega arith
 
 module _ {A : Type 0} {t : Table} {refusal : ℕ → A} {Out : A → Type 0} where
-  table-settled : Settled Out → (e : Edition) → Settled (TableIn t refusal Out e)
+  pub table-settled : Settled Out → (e : Edition) → Settled (TableIn t refusal Out e)
   table-settled s e = go (usable-or-refused e t)
     where
       go : Usable e t ⊎ ((k : ℕ) × Refused e t k) → Settled (TableIn t refusal Out e)
@@ -66,10 +66,11 @@ module _ {A : Type 0} {t : Table} {refusal : ℕ → A} {Out : A → Type 0} whe
   over-settled s = edition-settled (table-settled s)
 
   -- what holds of every refusal, and of every outcome of a table that may be used
+  pub table-any : (P : A → Type 0) → ((k : ℕ) → (k ≡ done → ⊥) → P (refusal k)) → ((o : A) → Out o → P o)
+      → (e : Edition) (o : A) → TableIn t refusal Out e o → P o
+  table-any P r f e _ (refused {k = k} d) = r k (no-zero d)
+  table-any P r f e o (usable u x) = f o x
+
   pub over-any : {n : ℕ} (P : A → Type 0) → ((k : ℕ) → (k ≡ done → ⊥) → P (refusal k)) → ((o : A) → Out o → P o)
       → (o : A) → OverTable n t refusal Out o → P o
-  over-any P r f = in-any P (r unknownEdition (λ q. omega (arith, q))) in-table
-    where
-      in-table : (e : Edition) (o : A) → TableIn t refusal Out e o → P o
-      in-table e _ (refused {k = k} d) = r k (no-zero d)
-      in-table e o (usable u x) = f o x
+  over-any P r f = in-any P (r unknownEdition (λ q. omega (arith, q))) (table-any P r f)

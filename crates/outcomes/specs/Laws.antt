@@ -15,6 +15,8 @@ use Rattle.outcomes.specs.Copy.{CopyOut, untouched, Copy}
 use Rattle.outcomes.specs.Write.{Write}
 use Rattle.outcomes.specs.Title.{Titles}
 use Rattle.outcomes.specs.Decode.{Decode}
+use Rattle.outcomes.specs.Resolve.{Resolve}
+use Rattle.outcomes.specs.ResolvedContext.{ResolvedContext}
 use Rattle.outcomes.specs.Feed.{FeedOut, unstored, Feed, Finish}
 use Rattle.outcomes.specs.Feeding.{Feeding, start, Holds, Feeds, Finishes}
 
@@ -49,6 +51,9 @@ pub record Refusals : Type 0 where
   pub write : (n : ℕ) (t : Table) (out : List ℕ) (o : CopyOut) → Write n t out o → CopyKeeps out o
   pub title : (n : ℕ) (t : Table) (i : ℕ) (out : List ℕ) (o : CopyOut) → Titles n t i out o → CopyKeeps out o
   pub decode : (w out : List ℕ) (o : CopyOut) → Decode w out o → CopyKeeps out o
+  pub resolve : (w base out : List ℕ) (o : CopyOut) → Resolve w base out o → CopyKeeps out o
+  pub resolved-context : (n : ℕ) (t : Table) (base : List ℕ) (i : ℕ) (out : List ℕ) (o : CopyOut)
+      → ResolvedContext n t base i out o → CopyKeeps out o
   pub feed : (n : ℕ) (fed part buffer : List ℕ) (o : FeedOut) → Feed n fed part buffer o → FeedKeeps buffer o
   pub finish : (n : ℕ) (fed buffer L P : List ℕ) (o : ReadOut) → Finish n fed buffer L P o → ReadKeeps L P o
 
@@ -66,6 +71,8 @@ pub record UnknownRefused : Type 0 where
       → o ≡ untouched out unknownEdition
   pub title : (n : ℕ) → NoEdition n → (t : Table) (i : ℕ) (out : List ℕ) (o : CopyOut) → Titles n t i out o
       → o ≡ untouched out unknownEdition
+  pub resolved-context : (n : ℕ) → NoEdition n → (t : Table) (base : List ℕ) (i : ℕ) (out : List ℕ) (o : CopyOut)
+      → ResolvedContext n t base i out o → o ≡ untouched out unknownEdition
   pub feed : (st next : Feeding) → NoEdition (st .edition) → (part buffer : List ℕ) (o : FeedOut)
       → Feeds st part buffer o next → (o ≡ unstored buffer unknownEdition 0) × (next ≡ st)
   pub finish : (st : Feeding) → NoEdition (st .edition) → (buffer L P : List ℕ) (o : ReadOut)
@@ -91,6 +98,12 @@ TitleSettled = (n : ℕ) (t : Table) (i : ℕ) (out : List ℕ) → Settled (Tit
 
 abbrev pub DecodeSettled : Type 0
 DecodeSettled = (w out : List ℕ) → Settled (Decode w out)
+
+abbrev pub ResolveSettled : Type 0
+ResolveSettled = (w base out : List ℕ) → Settled (Resolve w base out)
+
+abbrev pub ResolvedContextSettled : Type 0
+ResolvedContextSettled = (n : ℕ) (t : Table) (base : List ℕ) (i : ℕ) (out : List ℕ) → Settled (ResolvedContext n t base i out)
 
 abbrev pub FeedSettled : Type 0
 FeedSettled = (n : ℕ) (fed part buffer : List ℕ) → Settled (Feed n fed part buffer)

@@ -10,6 +10,8 @@ pub mod Copy
 pub mod Write
 pub mod Title
 pub mod Decode
+pub mod Resolve
+pub mod ResolvedContext
 pub mod Feed
 pub mod Feeding
 pub mod Laws

@@ -5,7 +5,8 @@ use Prim.Native.Nat.{ℕ}
 abbrev pub done : ℕ
 done = 0
 
--- the header, all feeds together, the text, the extended value or the written form have more octets than the limit
+-- the header, all feeds together, the text, the extended value, the written form, or a reference, its base or its result have more octets
+-- than the limit
 abbrev pub tooLong : ℕ
 tooLong = 1
 
@@ -49,6 +50,15 @@ unknownEdition = 10
 abbrev pub badExtended : ℕ
 badExtended = 11
 
--- the most octets of a header, a text, an extended value or a written form, and the least of a gathering buffer
+-- the base is no URI
+abbrev pub badBase : ℕ
+badBase = 12
+
+-- no reference
+abbrev pub badReference : ℕ
+badReference = 13
+
+-- the most octets of a header, a text, an extended value, a written form, a reference, a base or a result, and the least of a gathering
+-- buffer
 abbrev pub limit : ℕ
 limit = 8192

@@ -1,6 +1,7 @@
 // The laws of the outcomes, held by the gate: each function promises one statement of specs/Laws.antt and does nothing.
 ghost use Rattle.outcomes.specs.Laws.{Refusals, ReadSettled, SearchSettled, ContextSettled, CopySettled, WriteSettled};
 ghost use Rattle.outcomes.specs.Laws.{UnknownRefused, TitleSettled, DecodeSettled, FeedSettled, FinishSettled, StartHolds};
+ghost use Rattle.outcomes.specs.Laws.{ResolveSettled, ResolvedContextSettled};
 
 // A refusal answers zeros and changes nothing lent, and success keeps what stands behind.
 pub fn refusals()
@@ -45,6 +46,16 @@ pub fn title_settled()
 // Decoding an extended value has one outcome.
 pub fn decode_settled()
     ensures { λ _. ⌜ DecodeSettled ⌝ }
+{}
+
+// Resolving a reference has one outcome.
+pub fn resolve_settled()
+    ensures { λ _. ⌜ ResolveSettled ⌝ }
+{}
+
+// Asking for a link's resolved context has one outcome.
+pub fn resolved_context_settled()
+    ensures { λ _. ⌜ ResolvedContextSettled ⌝ }
 {}
 
 // A feed has one outcome.

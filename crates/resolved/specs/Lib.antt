@@ -1,0 +1,2 @@
+-- What the crate `resolved` means by its words.
+pub mod OnBase

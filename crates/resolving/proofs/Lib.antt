@@ -1,0 +1,3 @@
+-- The laws of the crate `resolving`.
+pub mod Fitting
+pub mod Resolving
