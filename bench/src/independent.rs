@@ -41,6 +41,20 @@ pub fn title(t: &Table, link: usize, out: &mut [u8]) -> (usize, usize) {
     )
 }
 
+pub fn resolved_context(t: &Table, base: &[u8], link: usize, out: &mut [u8]) -> (usize, usize) {
+    oracle::resolved_context(
+        EDITION,
+        &t.text,
+        base,
+        &t.links,
+        &t.params,
+        t.link_count,
+        t.param_count,
+        link,
+        out,
+    )
+}
+
 pub fn write(t: &Table, out: &mut [u8]) -> (usize, usize) {
     oracle::write(
         EDITION,

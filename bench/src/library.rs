@@ -90,6 +90,18 @@ pub fn decode(value: &[u8], out: &mut [u8]) -> (usize, usize) {
 }
 
 /// The number, and the length.
+pub fn resolve(reference: &[u8], base: &[u8], out: &mut [u8]) -> (usize, usize) {
+    let answer = ffi::resolve(black_box(reference), black_box(base), out);
+    (answer.number, answer.length)
+}
+
+/// The number, and the length.
+pub fn resolved_context(table: &Table, base: &[u8], link: usize, out: &mut [u8]) -> (usize, usize) {
+    let answer = ffi::resolved_context(EDITION, table.raw(), black_box(base), link, out);
+    (answer.number, answer.length)
+}
+
+/// The number, and the length.
 pub fn write(table: &Table, out: &mut [u8]) -> (usize, usize) {
     let answer = ffi::write(EDITION, table.raw(), out);
     (answer.number, answer.length)

@@ -15,6 +15,7 @@ mod independent;
 mod library;
 mod names;
 mod pairs;
+mod resolving;
 mod titles;
 
 fn main() {
@@ -33,4 +34,8 @@ fn main() {
     editions::print();
     println!();
     titles::print();
+    println!();
+    resolving::print();
+    println!();
+    resolving::print_growth();
 }

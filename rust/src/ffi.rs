@@ -17,8 +17,8 @@ pub use answers::{
 };
 use symbols::{
     capstan_compare, capstan_context, capstan_decode, capstan_feed, capstan_finish,
-    capstan_name_code, capstan_read, capstan_search, capstan_start, capstan_title, capstan_value,
-    capstan_write,
+    capstan_name_code, capstan_read, capstan_resolve, capstan_resolved_context, capstan_search,
+    capstan_start, capstan_title, capstan_value, capstan_write,
 };
 
 /// Reads a header into the slots lent.
@@ -285,6 +285,71 @@ pub fn title(edition: usize, table: RawTable<'_>, link: usize, out: &mut [u8]) -
 pub fn decode(value: &[u8], out: &mut [u8]) -> LengthAnswer {
     // SAFETY: as in `read`; the output alone is lent for writing.
     unsafe { capstan_decode(value.as_ptr(), value.len(), out.as_mut_ptr(), out.len()) }
+}
+
+/// Resolves a reference on a base.
+///
+/// ```
+/// use capstanbar::ffi::resolve;
+///
+/// let mut out = *b"........";
+/// assert_eq!((resolve(b"../c", b"a:/b/d", &mut out).length, &out), (4, b"a:/c...."));
+/// assert_eq!(resolve(b"../c", b"/b/d", &mut out).number, 12);
+/// assert_eq!(resolve(b"1:c", b"a:/b/d", &mut out).number, 13);
+/// ```
+pub fn resolve(reference: &[u8], base: &[u8], out: &mut [u8]) -> LengthAnswer {
+    // SAFETY: as in `read`; the output alone is lent for writing.
+    unsafe {
+        capstan_resolve(
+            reference.as_ptr(),
+            reference.len(),
+            base.as_ptr(),
+            base.len(),
+            out.as_mut_ptr(),
+            out.len(),
+        )
+    }
+}
+
+/// Resolves the context of a link: what its `anchor` means on the base, or else the base without its
+/// fragment.
+///
+/// ```
+/// use capstanbar::ffi::{resolved_context, RawTable};
+///
+/// let (links, params) = ([0, 0, 0, 1], [0, 6, 6, 9, 2, 2]);
+/// let text = br"anchor\/b";
+/// let table = RawTable { text, links: &links, params: &params, link_count: 1, param_count: 1 };
+/// let mut out = *b".......";
+/// assert_eq!((resolved_context(0, table, b"a://c/d", 0, &mut out).length, &out), (7, b"a://c/b"));
+/// assert_eq!(resolved_context(0, table, b"/d", 0, &mut out).number, 12);
+/// ```
+pub fn resolved_context(
+    edition: usize,
+    table: RawTable<'_>,
+    base: &[u8],
+    link: usize,
+    out: &mut [u8],
+) -> LengthAnswer {
+    // SAFETY: as in `read`; the output alone is lent for writing.
+    unsafe {
+        capstan_resolved_context(
+            edition,
+            table.text.as_ptr(),
+            table.text.len(),
+            base.as_ptr(),
+            base.len(),
+            table.links.as_ptr(),
+            table.links.len(),
+            table.params.as_ptr(),
+            table.params.len(),
+            table.link_count,
+            table.param_count,
+            link,
+            out.as_mut_ptr(),
+            out.len(),
+        )
+    }
 }
 
 /// Writes the table's one written form.

@@ -1,5 +1,6 @@
 //! HTTP `Link` field values (RFC 8288, and the older RFC 5988): read into tables that the caller lends,
-//! asked, also for titles in any language (RFC 8187), and written back in one fixed form.
+//! asked, also for titles in any language (RFC 8187) and for targets and contexts resolved on a base
+//! (RFC 3986), and written back in one fixed form.
 //!
 //! The work is done by a static library whose promises are proved for every input; this crate makes
 //! it safe and pleasant to call. It allocates nothing and needs no `std`.
@@ -57,6 +58,23 @@
 //! let mut room = [0; 64];
 //! assert_eq!(table.search(b"next")?.title(&mut room)?, Title::Text("H\u{e4}fen"));
 //! assert_eq!(decode(b"utf-8''%e2%82%ac", &mut room)?, "\u{20ac}");
+//! # Ok::<(), capstanbar::Refusal>(())
+//! ```
+//!
+//! A link's target and its context are resolved on the address that the header came from. [`resolve`]
+//! resolves any reference:
+//!
+//! ```
+//! use capstanbar::{resolve, Table, LINK_SLOTS, PARAM_SLOTS};
+//!
+//! let (mut links, mut params) = ([0; 16 * LINK_SLOTS], [0; 64 * PARAM_SLOTS]);
+//! let header = br##"<../9>; rel=next; anchor="#scene-2""##;
+//! let table = Table::read(header, &mut links, &mut params)?;
+//! let (base, mut room) = (b"http://example.net/packs/8/", [0; 64]);
+//! let next = table.search(b"next")?;
+//! assert_eq!(next.resolve(base, &mut room)?, b"http://example.net/packs/9");
+//! assert_eq!(next.resolved_context(base, &mut room)?, b"http://example.net/packs/8/#scene-2");
+//! assert_eq!(resolve(b"../../../g", b"http://a/b/c/d;p?q", &mut room)?, b"http://a/g");
 //! # Ok::<(), capstanbar::Refusal>(())
 //! ```
 //!
@@ -134,6 +152,7 @@ mod name;
 mod param;
 mod read;
 mod refusal;
+mod resolve;
 mod table;
 mod title;
 
@@ -147,5 +166,6 @@ pub use name::{ByName, Name};
 pub use param::{Form, NamedParams, Param, Params};
 pub use read::{read, read_in, Counts};
 pub use refusal::Refusal;
+pub use resolve::resolve;
 pub use table::Table;
 pub use title::Title;

@@ -1,5 +1,6 @@
-/// The most octets that a header, a table's text, a written form or an extended value may have, and
-/// those of a buffer that gathers a header.
+/// The most octets that a header, a table's text, a written form or an extended value may have, a
+/// reference and a base that are to be resolved, and the result; and those of a buffer that gathers a
+/// header.
 ///
 /// ```
 /// use capstanbar::{read, Refusal, LIMIT};

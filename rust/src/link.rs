@@ -1,4 +1,4 @@
-use crate::{ByName, NamedParams, Param, Params, Refusal, Table, Title};
+use crate::{resolve, ByName, NamedParams, Param, Params, Refusal, Table, Title};
 use core::ops::Range;
 
 /// A link of a table.
@@ -118,6 +118,57 @@ impl<'a> Link<'a> {
         self.table
             .context(base, self.number)
             .expect("the table is good and has this link")
+    }
+
+    /// Resolves its target on a base to the beginning of the output, as [`resolve`](crate::resolve())
+    /// does, and hands back the result.
+    ///
+    /// Refused in this order: too long (the base), bad base, too long (the result), no output room.
+    /// [`LIMIT`](crate::LIMIT) octets of room are always enough.
+    ///
+    /// ```
+    /// use capstanbar::Refusal;
+    ///
+    /// # let (mut links, mut params) = ([0; 8], [0; 64]);
+    /// let table = capstanbar::Table::read(b"<../c>, <>", &mut links, &mut params)?;
+    /// let [up, same] = [0, 1].map(|number| table.link(number).unwrap());
+    /// let mut room = [0; 16];
+    /// assert_eq!(up.resolve(b"http://a/b/", &mut room)?, b"http://a/c");
+    /// assert_eq!(same.resolve(b"http://a/b/#top", &mut room)?, b"http://a/b/");
+    /// assert_eq!(up.resolve(b"/b/", &mut room), Err(Refusal::BadBase));
+    /// assert_eq!(up.resolve(b"http://a/b/", &mut room[..9]), Err(Refusal::NoOutputRoom));
+    /// # Ok::<(), Refusal>(())
+    /// ```
+    pub fn resolve<'o>(&self, base: &[u8], out: &'o mut [u8]) -> Result<&'o [u8], Refusal> {
+        resolve(self.target(), base, out)
+    }
+
+    /// Resolves its context, as [`Table::resolved_context`] does: what its `anchor` means on the base;
+    /// without one, the base without its fragment.
+    ///
+    /// Refused in this order: too long (the base), bad base, bad reference, too long (the result), no
+    /// output room.
+    ///
+    /// ```
+    /// use capstanbar::Refusal;
+    ///
+    /// # let (mut links, mut params) = ([0; 16], [0; 64]);
+    /// let header = br##"<a>;anchor="\#f", <b>;anchor, <c>, <d>;anchor="1:e""##;
+    /// let table = capstanbar::Table::read(header, &mut links, &mut params)?;
+    /// let (base, mut room) = (b"http://a/b#top", [0; 16]);
+    /// let [a, b, c, d] = [0, 1, 2, 3].map(|number| table.link(number).unwrap());
+    /// assert_eq!(a.resolved_context(base, &mut room)?, b"http://a/b#f");
+    /// assert_eq!(b.resolved_context(base, &mut room)?, b"http://a/b");
+    /// assert_eq!(c.resolved_context(base, &mut room)?, b"http://a/b");
+    /// assert_eq!(d.resolved_context(base, &mut room), Err(Refusal::BadReference));
+    /// # Ok::<(), Refusal>(())
+    /// ```
+    pub fn resolved_context<'o>(
+        &self,
+        base: &[u8],
+        out: &'o mut [u8],
+    ) -> Result<&'o [u8], Refusal> {
+        self.table.resolved_context(base, self.number, out)
     }
 
     /// Copies its title, as [`Table::title`] does: the text of its `title*` if that is right, else the

@@ -14,7 +14,7 @@ use core::fmt;
 #[non_exhaustive]
 pub enum Refusal {
     /// The header, all that was fed, the text, the written form or the extended value has over
-    /// [`LIMIT`](crate::LIMIT) octets.
+    /// [`LIMIT`](crate::LIMIT) octets; or the reference, the base or what they resolve to has.
     TooLong,
     /// The header isn't well formed; at a feed, what was fed is wrong, whatever follows.
     Malformed {
@@ -49,6 +49,12 @@ pub enum Refusal {
     /// The extended value is wrong. A link's title is never refused for it: a `title*` that is wrong
     /// counts as none.
     BadExtended,
+    /// The base that something is to be resolved on is no URI by the grammar of RFC 3986; one without a
+    /// scheme is none.
+    BadBase,
+    /// What is to be resolved is no URI-reference by that grammar: the reference, or what an `anchor`
+    /// means. A link's target is never refused for it: in a good table it is one.
+    BadReference,
 }
 
 impl Refusal {
@@ -59,7 +65,7 @@ impl Refusal {
     ///
     /// assert_eq!(Refusal::TooLong.number(), 1);
     /// assert_eq!(Refusal::Malformed { place: 13 }.number(), 2);
-    /// assert_eq!(Refusal::BadExtended.number(), 11);
+    /// assert_eq!(Refusal::BadReference.number(), 13);
     /// ```
     pub const fn number(self) -> usize {
         match self {
@@ -74,13 +80,15 @@ impl Refusal {
             Refusal::NotFound => 9,
             Refusal::UnknownEdition => 10,
             Refusal::BadExtended => 11,
+            Refusal::BadBase => 12,
+            Refusal::BadReference => 13,
         }
     }
 
     /// What the answered number says: nothing refused, or the refusal. The place counts with number
     /// 2 alone.
     ///
-    /// The library is proved to answer no other number, so one past 11 means that the library linked
+    /// The library is proved to answer no other number, so one past 13 means that the library linked
     /// isn't the one this crate was made for.
     pub(crate) fn check(number: usize, place: usize) -> Result<(), Refusal> {
         Err(match number {
@@ -96,6 +104,8 @@ impl Refusal {
             9 => Refusal::NotFound,
             10 => Refusal::UnknownEdition,
             11 => Refusal::BadExtended,
+            12 => Refusal::BadBase,
+            13 => Refusal::BadReference,
             _ => panic!("the library answered the unknown number {number}"),
         })
     }
@@ -115,6 +125,8 @@ impl fmt::Display for Refusal {
             Refusal::NotFound => "not found",
             Refusal::UnknownEdition => "unknown edition",
             Refusal::BadExtended => "wrong extended value",
+            Refusal::BadBase => "the base is no URI",
+            Refusal::BadReference => "not a URI-reference",
         })
     }
 }

@@ -287,6 +287,37 @@ impl<'a> Table<'a> {
         Ok(&whole[answer.start..answer.end])
     }
 
+    /// Resolves the context of the link of that number to the beginning of the output, and hands back
+    /// the result: what its `anchor` means, the backslashes of a quoted string taken out, resolved on
+    /// the base as [`resolve`](crate::resolve()) does; without an `anchor`, the base without its
+    /// fragment. An `anchor` without a value is the empty reference.
+    ///
+    /// Refused in this order: too long (the base), no such link, bad base, bad reference, too long (the
+    /// result), no output room. [`LIMIT`](crate::LIMIT) octets of room are always enough.
+    ///
+    /// ```
+    /// use capstanbar::{Refusal, Table};
+    ///
+    /// # let (mut links, mut params) = ([0; 8], [0; 64]);
+    /// let table = Table::read(br#"<a>;anchor="\../c", <b>"#, &mut links, &mut params)?;
+    /// let mut room = [0; 16];
+    /// assert_eq!(table.resolved_context(b"http://a/b/", 0, &mut room)?, b"http://a/c");
+    /// assert_eq!(table.resolved_context(b"http://a/b/#d", 1, &mut room)?, b"http://a/b/");
+    /// assert_eq!(table.resolved_context(b"/b/", 1, &mut room), Err(Refusal::BadBase));
+    /// assert_eq!(table.resolved_context(b"/b/", 2, &mut room), Err(Refusal::NoSuchLink));
+    /// # Ok::<(), Refusal>(())
+    /// ```
+    pub fn resolved_context<'o>(
+        &self,
+        base: &[u8],
+        link: usize,
+        out: &'o mut [u8],
+    ) -> Result<&'o [u8], Refusal> {
+        let answer = ffi::resolved_context(self.edition.number(), self.raw, base, link, out);
+        Refusal::check(answer.number, 0)?;
+        Ok(&out[..answer.length])
+    }
+
     /// Copies the meaning of a parameter's value, its backslashes taken out, to the beginning of the
     /// output, and hands back what was copied. The parameter is named by the number of its link and
     /// its place within that link.

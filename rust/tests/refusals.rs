@@ -1,6 +1,6 @@
 //! Every refusal with its number and words, and what a refusal leaves alone.
 
-use capstanbar::{decode, read, Refusal, Table, LINK_SLOTS, PARAM_SLOTS};
+use capstanbar::{decode, read, resolve, Refusal, Table, LINK_SLOTS, PARAM_SLOTS};
 
 #[test]
 fn numbers_and_words() {
@@ -16,6 +16,8 @@ fn numbers_and_words() {
         (Refusal::NotFound, "not found"),
         (Refusal::UnknownEdition, "unknown edition"),
         (Refusal::BadExtended, "wrong extended value"),
+        (Refusal::BadBase, "the base is no URI"),
+        (Refusal::BadReference, "not a URI-reference"),
     ];
     for (number, (refusal, words)) in (1..).zip(all) {
         assert_eq!(refusal.number(), number);
@@ -55,5 +57,20 @@ fn output_is_left_alone() {
     assert_eq!(decode(b"UTF-8''ab%", &mut out), Err(Refusal::BadExtended));
     assert_eq!(decode(b"UTF-8''abcd", &mut out), Err(Refusal::NoOutputRoom));
     assert_eq!(decode(&[b'a'; 8193], &mut out), Err(Refusal::TooLong));
+    assert_eq!(resolve(b"b", b"a:/", &mut out), Err(Refusal::NoOutputRoom));
+    assert_eq!(resolve(b"[", b"a:/", &mut out), Err(Refusal::BadReference));
+    assert_eq!(resolve(b"b", b"/", &mut out), Err(Refusal::BadBase));
+    assert_eq!(
+        resolve(&[b'b'; 8193], b"/", &mut out),
+        Err(Refusal::TooLong)
+    );
+    let mut context = |base: &[u8], link| {
+        let resolved = table.resolved_context(base, link, &mut out);
+        resolved.map(<[u8]>::len)
+    };
+    assert_eq!(context(b"a:/b", 0), Err(Refusal::NoOutputRoom));
+    assert_eq!(context(b"/b", 0), Err(Refusal::BadBase));
+    assert_eq!(context(b"/b", 2), Err(Refusal::NoSuchLink));
+    assert_eq!(context(&[b'b'; 8193], 2), Err(Refusal::TooLong));
     assert_eq!(out, [9; 3]);
 }

@@ -35,10 +35,10 @@ static size_t number_at(size_t i)
     return i < WIDE * EACH ? wide[i / EACH] + i % EACH : SIZE_MAX - (i - WIDE * EACH);
 }
 
-/* All that is lent: a table's text and slots, and the output of a value, of a title and of a written form. */
+/* All that is lent: a table's text and slots, and the output of a resolved context, of a value, of a title and of a written form. */
 static struct {
     size_t links[LINK_SLOTS], params[PARAM_SLOTS];
-    uint8_t text[OCTETS], value[OCTETS], title[OCTETS], form[OCTETS];
+    uint8_t text[OCTETS], resolved[OCTETS], value[OCTETS], title[OCTETS], form[OCTETS];
 } lent, before;
 
 static int failures;
@@ -56,6 +56,7 @@ static void fill(const char *text)
     memcpy(lent.text, text, strlen(text));
     for (size_t i = 0; i < LINK_SLOTS; i++) lent.links[i] = UNUSED;
     for (size_t i = 0; i < PARAM_SLOTS; i++) lent.params[i] = UNUSED;
+    memset(lent.resolved, UNUSED, OCTETS);
     memset(lent.value, UNUSED, OCTETS);
     memset(lent.title, UNUSED, OCTETS);
     memset(lent.form, UNUSED, OCTETS);
@@ -95,12 +96,12 @@ static void test_read(size_t edition, size_t row)
     expect(memcmp(&r, &due, sizeof r) == 0 && untouched(), "read in parts", text, rows[row].code);
 }
 
-/* What the functions answer of a table: asked for `b`, and for the first link, its context, its first value and its title. */
-typedef struct { capstan_search_answer search; capstan_context_answer context; capstan_length_answer value, title, write; } asked;
+/* What the functions answer of a table: asked for `b`, and for the first link, its context, resolved too, its first value and its title. */
+typedef struct { capstan_search_answer search; capstan_context_answer context; capstan_length_answer resolved, value, title, write; } asked;
 
 static const asked bad = {
     { CAPSTAN_BAD_TABLE, 0 }, { CAPSTAN_BAD_TABLE, CAPSTAN_NO_SOURCE, 0, 0 }, { CAPSTAN_BAD_TABLE, 0 }, { CAPSTAN_BAD_TABLE, 0 },
-    { CAPSTAN_BAD_TABLE, 0 },
+    { CAPSTAN_BAD_TABLE, 0 }, { CAPSTAN_BAD_TABLE, 0 },
 };
 
 static asked ask(size_t edition, size_t len, size_t links, size_t params)
@@ -111,6 +112,8 @@ static asked ask(size_t edition, size_t len, size_t links, size_t params)
                               (const uint8_t *)"b", 1);
     a.context = capstan_context(edition, lent.text, len, (const uint8_t *)"base", 4, lent.links, LINK_SLOTS, lent.params, PARAM_SLOTS,
                                 links, params, 0);
+    a.resolved = capstan_resolved_context(edition, lent.text, len, (const uint8_t *)"a:/c", 4, lent.links, LINK_SLOTS, lent.params,
+                                          PARAM_SLOTS, links, params, 0, lent.resolved, OCTETS);
     a.value = capstan_value(edition, lent.text, len, lent.links, LINK_SLOTS, lent.params, PARAM_SLOTS, links, params, 0, 0, lent.value,
                             OCTETS);
     a.title = capstan_title(edition, lent.text, len, lent.links, LINK_SLOTS, lent.params, PARAM_SLOTS, links, params, 0, lent.title,
@@ -122,8 +125,8 @@ static asked ask(size_t edition, size_t len, size_t links, size_t params)
 /* What is due of a link with that one parameter, whose value is `b` at that place: a title, but no right extended value. */
 static asked due_of(size_t code, size_t place)
 {
-    asked due = { { CAPSTAN_NOT_FOUND, 0 }, { CAPSTAN_DONE, CAPSTAN_BASE, 0, 4 }, { CAPSTAN_DONE, 1 }, { CAPSTAN_NOT_FOUND, 0 },
-                  { CAPSTAN_NO_RELATION, 0 } };
+    asked due = { { CAPSTAN_NOT_FOUND, 0 }, { CAPSTAN_DONE, CAPSTAN_BASE, 0, 4 }, { CAPSTAN_DONE, 4 }, { CAPSTAN_DONE, 1 },
+                  { CAPSTAN_NOT_FOUND, 0 }, { CAPSTAN_NO_RELATION, 0 } };
     const capstan_search_answer found = { CAPSTAN_DONE, 0 };
     const capstan_context_answer anchor = { CAPSTAN_DONE, CAPSTAN_TEXT, place, place + 1 };
     const capstan_length_answer title = { CAPSTAN_DONE, 1 }, written = { CAPSTAN_DONE, 10 };
@@ -158,6 +161,7 @@ static void test_made(size_t edition, size_t row)
         const asked a = ask(edition, len + 1, 1, 1);
         if (number == rows[row].code) {
             expect(memcmp(&a, &due, sizeof a) == 0 && lent.value[0] == 'b', "a good table", text, number);
+            expect(memcmp(lent.resolved, number == CAPSTAN_ANCHOR ? "a:/b" : "a:/c", 4) == 0, "a resolved context", text, number);
         } else {
             expect(memcmp(&a, &bad, sizeof a) == 0, "a bad table", text, number);
             expect(untouched(), "what was lent is changed", text, number);
@@ -183,8 +187,9 @@ static void test_each_record(size_t edition)
         keep();
         const asked a = ask(edition, len, r.links, r.params);
         if (number == codes[param])
-            expect(a.search.number == CAPSTAN_DONE && a.context.number == CAPSTAN_DONE && a.value.number == CAPSTAN_DONE
-                       && a.title.number == CAPSTAN_DONE && lent.title[0] == 'c' && a.write.number == CAPSTAN_NO_RELATION,
+            expect(a.search.number == CAPSTAN_DONE && a.context.number == CAPSTAN_DONE && a.resolved.number == CAPSTAN_DONE
+                       && a.value.number == CAPSTAN_DONE && a.title.number == CAPSTAN_DONE && lent.title[0] == 'c'
+                       && a.write.number == CAPSTAN_NO_RELATION,
                    "a good table of two links", text, number);
         else
             expect(memcmp(&a, &bad, sizeof a) == 0 && untouched(), "a bad table of two links", text, number);

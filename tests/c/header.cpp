@@ -51,6 +51,29 @@ static bool titles_hold()
         && wrong.length == 0;
 }
 
+// A target and a context are resolved on the same base.
+static bool resolved_hold()
+{
+    const std::string header = "<../8>;anchor=\"\\#s\"";
+    const std::string base = "http://a/packs/7/#f";
+    const std::string target = "http://a/packs/8", context = "http://a/packs/7/#s";
+    std::vector<std::size_t> links(CAPSTAN_LINK_SLOTS), params(CAPSTAN_PARAM_SLOTS);
+    std::vector<std::uint8_t> resolved(target.size()), told(context.size());
+
+    const auto r = capstan_read(CAPSTAN_RFC8288, octets(header), header.size(), links.data(), links.size(), params.data(),
+                                params.size());
+    const auto t = capstan_resolve(octets(header) + links[0], links[1] - links[0], octets(base), base.size(), resolved.data(),
+                                   resolved.size());
+    const auto c = capstan_resolved_context(CAPSTAN_RFC8288, octets(header), header.size(), octets(base), base.size(), links.data(),
+                                            links.size(), params.data(), params.size(), r.links, r.params, 0, told.data(), told.size());
+    const auto bad_base = capstan_resolve(octets(base), base.size(), octets(header), 1, resolved.data(), resolved.size());
+    const auto bad_reference = capstan_resolve(octets(header), 1, octets(base), base.size(), resolved.data(), resolved.size());
+    return t.number == CAPSTAN_DONE && t.length == target.size() && std::memcmp(resolved.data(), target.data(), target.size()) == 0
+        && c.number == CAPSTAN_DONE && c.length == context.size() && std::memcmp(told.data(), context.data(), context.size()) == 0
+        && bad_base.number == CAPSTAN_BAD_BASE && bad_base.length == 0 && bad_reference.number == CAPSTAN_BAD_REFERENCE
+        && bad_reference.length == 0;
+}
+
 int main()
 {
     const std::string header = "</packs/8>; rel=\"next\"";
@@ -78,7 +101,8 @@ int main()
         && c.number == CAPSTAN_DONE && c.source == CAPSTAN_BASE && c.start == 0 && c.end == base.size() && v.number == CAPSTAN_DONE
         && v.length == relation.size() && std::memcmp(out.data(), relation.data(), v.length) == 0 && w.number == CAPSTAN_DONE
         && w.length == form.size() && std::memcmp(written.data(), form.data(), w.length) == 0 && code == CAPSTAN_REL
-        && params.back() == code && alike.same == 1 && alike.pairs == name.size() && parts_hold(header, r, links, params) && titles_hold();
+        && params.back() == code && alike.same == 1 && alike.pairs == name.size() && parts_hold(header, r, links, params) && titles_hold()
+        && resolved_hold();
     if (!holds)
         std::puts("header.cpp: an answer is not the one expected");
     return holds ? 0 : 1;

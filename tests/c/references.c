@@ -141,7 +141,7 @@ static void test_target(size_t edition, const char *target, int right)
 static void test_table(size_t edition, const char *target, int right)
 {
     char text[OCTETS], form[OCTETS];
-    uint8_t value[OCTETS], out[OCTETS], unused[OCTETS];
+    uint8_t value[OCTETS], context[OCTETS], out[OCTETS], unused[OCTETS];
     const size_t len = 4 + strlen(target), links[] = { 3, 4, 0, 1, 4, len, 1, 1 };
     const size_t params[] = { 0, 3, 3, 4, CAPSTAN_TOKEN, CAPSTAN_REL, 0, 3, 3, 4, CAPSTAN_QUOTED, CAPSTAN_REL };
 
@@ -149,6 +149,7 @@ static void test_table(size_t edition, const char *target, int right)
     snprintf(form, sizeof form, "<x>; rel=x, <%s>; rel=x", target);
     memset(unused, UNUSED, OCTETS);
     memset(value, UNUSED, OCTETS);
+    memset(context, UNUSED, OCTETS);
     memset(out, UNUSED, OCTETS);
     const capstan_search_answer s = capstan_search(edition, octets(text), len, links, LINK_SLOTS, params, PARAM_SLOTS, 2, 2,
                                                    octets("x"), 1);
@@ -158,7 +159,12 @@ static void test_table(size_t edition, const char *target, int right)
                                                   OCTETS);
     const capstan_length_answer w = capstan_write(edition, octets(text), len, links, LINK_SLOTS, params, PARAM_SLOTS, 2, 2, out, OCTETS);
     const capstan_length_answer t = capstan_title(edition, octets(text), len, links, LINK_SLOTS, params, PARAM_SLOTS, 2, 2, 0, out, OCTETS);
+    const capstan_length_answer r = capstan_resolved_context(edition, octets(text), len, octets("a:b"), 3, links, LINK_SLOTS, params,
+                                                             PARAM_SLOTS, 2, 2, 0, context, OCTETS);
     const size_t number = right ? CAPSTAN_DONE : CAPSTAN_BAD_TABLE;
+    expect(r.number == number && r.length == (right ? 3 : 0), "its resolved context", text, edition, 0);
+    expect(memcmp(context, "a:b", r.length) == 0 && memcmp(context + r.length, unused, OCTETS - r.length) == 0, "a resolved context", text,
+           edition, 0);
     expect(t.number == (right ? CAPSTAN_NOT_FOUND : CAPSTAN_BAD_TABLE) && t.length == 0, "its title", text, edition, 0);
     expect(s.number == number && c.number == number && v.number == number && w.number == number, "a table", text, edition, 0);
     expect(s.link == 0 && c.end == (right ? 4 : 0) && v.length == (size_t)right, "what a table is asked", text, edition, 0);

@@ -1,6 +1,6 @@
 /*
  * How much of the stack the library takes: every function runs on a stack of its own, filled beforehand, on a header of one target, one
- * that is noted whole, and one of as many links as fit.
+ * that is noted whole, one with anchors, and one of as many links as fit; and on the longest base.
  */
 #define _XOPEN_SOURCE 700
 #include "capstan.h"
@@ -11,13 +11,13 @@
 
 enum { LIMIT = 8192, LINKS = 2731, PARAMS = 4096, STACK = 65536, ALLOWED = 8192, FILLED = 0xAA };
 
-static const char *const items[] = { "<a", "<a>;rel=\"b c\";title=d;e,", "<>," };
+static const char *const items[] = { "<a", "<a>;rel=\"b c\";title=d;e,", "<a>;anchor=\"b\\/\\..\",", "<>," };
 enum { ITEMS = sizeof items / sizeof *items };
 
 static unsigned char stack[STACK];
 static ucontext_t test, own;
 static const char *item;
-static uint8_t header[LIMIT], buffer[LIMIT], out[LIMIT];
+static uint8_t header[LIMIT], buffer[LIMIT], base[LIMIT], out[LIMIT];
 static size_t links[LINKS * CAPSTAN_LINK_SLOTS], params[PARAMS * CAPSTAN_PARAM_SLOTS];
 
 #define COUNT(slots) (sizeof slots / sizeof *slots)
@@ -39,9 +39,17 @@ static size_t make(void)
     return length;
 }
 
+/* The longest base: segments, with dots among them. */
+static void make_base(void)
+{
+    for (size_t i = 0; i < LIMIT; i++) base[i] = (uint8_t)"b/../c/"[i % 7];
+    memcpy(base, "a:/", 3);
+}
+
 static void call_each(void)
 {
     const size_t length = make();
+    make_base();
     const capstan_read_answer read = capstan_read(CAPSTAN_RFC5988, header, length, links, COUNT(links), params, COUNT(params));
     const capstan_feed_answer fed = capstan_feed(capstan_start(CAPSTAN_RFC8288), header, length, buffer, LIMIT);
     capstan_finish(fed.next, buffer, LIMIT, links, COUNT(links), params, COUNT(params));
@@ -51,6 +59,10 @@ static void call_each(void)
     capstan_title(CAPSTAN_RFC8288, TABLE, 0, out, LIMIT);
     capstan_write(CAPSTAN_RFC8288, TABLE, out, LIMIT);
     capstan_decode(header, length, out, LIMIT);
+    capstan_resolve(base + 3, LIMIT - 3, base, LIMIT, out, LIMIT);
+    capstan_resolve(base + 3, LIMIT - 3, base, 3, out, LIMIT);
+    capstan_resolved_context(CAPSTAN_RFC8288, header, length, base, LIMIT, links, COUNT(links), params, COUNT(params), read.links,
+                             read.params, 0, out, LIMIT);
     capstan_name_code(header, length);
     capstan_compare(header, length, buffer, LIMIT);
 }

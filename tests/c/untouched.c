@@ -221,6 +221,68 @@ static void test_decode(void)
     expect_kept(0, 0, 2, "decode: just room enough");
 }
 
+static void resolve_refused(const uint8_t *reference, size_t len, const uint8_t *base, size_t base_len, size_t out_len, size_t number,
+                            const char *what)
+{
+    capstan_length_answer a = capstan_resolve(reference, len, base, base_len, out, out_len);
+    expect(a.number == number && a.length == 0, what);
+    expect_kept(0, 0, 0, what);
+}
+
+static void test_resolve(void)
+{
+    const uint8_t *base = octets("a://h/b");
+
+    fill();
+    keep();
+    resolve_refused(long_text, sizeof long_text, base, 7, OCTETS, CAPSTAN_TOO_LONG, "resolve: a reference of 8,193 octets");
+    resolve_refused(octets("["), 1, long_text, sizeof long_text, 0, CAPSTAN_TOO_LONG, "resolve: a base of 8,193 octets");
+    resolve_refused(octets("["), 1, base + 2, 5, OCTETS, CAPSTAN_BAD_BASE, "resolve: a base without a scheme, and no reference");
+    resolve_refused(octets("c["), 2, base, 7, OCTETS, CAPSTAN_BAD_REFERENCE, "resolve: wrong at its end");
+    resolve_refused(octets("c["), 2, base, 7, 0, CAPSTAN_BAD_REFERENCE, "resolve: wrong, and no room");
+    resolve_refused(long_text, CAPSTAN_LIMIT, base, 7, OCTETS, CAPSTAN_TOO_LONG, "resolve: a result of 8,198 octets");
+    resolve_refused(octets("../c"), 4, base, 7, 6, CAPSTAN_NO_OUTPUT_ROOM, "resolve: room for six octets");
+
+    capstan_length_answer a = capstan_resolve(octets("../c"), 4, base, 7, out, 7);
+    expect(a.number == CAPSTAN_DONE && a.length == 7 && memcmp(out, "a://h/c", 7) == 0, "resolve: just room enough");
+    expect_kept(0, 0, 7, "resolve: just room enough");
+}
+
+static void resolved_context_refused(const uint8_t *text, size_t len, const uint8_t *base, size_t base_len, size_t param_count, size_t link,
+                                     size_t out_len, size_t number, const char *what)
+{
+    capstan_length_answer c = capstan_resolved_context(edition, text, len, base, base_len, links, LINK_SLOTS, params, PARAM_SLOTS, 2,
+                                                       param_count, link, out, out_len);
+    expect(c.number == number && c.length == 0, what);
+    expect_kept(0, 0, 0, what);
+}
+
+static void test_resolved_context(void)
+{
+    const uint8_t *text = octets(header), *base = octets("a:b#c");
+
+    read_header();
+    resolved_context_refused(long_text, sizeof long_text, base, 5, 3, 0, OCTETS, CAPSTAN_TOO_LONG, "resolved context: 8,193 octets");
+    resolved_context_refused(text, HEADER_LEN, long_text, sizeof long_text, 2, 2, OCTETS, CAPSTAN_TOO_LONG,
+                             "resolved context: a base of 8,193 octets, a parameter fewer, and no such link");
+    resolved_context_refused(text, HEADER_LEN, base, 5, 2, 0, OCTETS, CAPSTAN_BAD_TABLE, "resolved context: a parameter fewer");
+    resolved_context_refused(text, HEADER_LEN, base, 1, 3, 2, OCTETS, CAPSTAN_NO_SUCH_LINK, "resolved context: no such link, and no URI");
+    resolved_context_refused(text, HEADER_LEN, base, 5, 3, SIZE_MAX, 0, CAPSTAN_NO_SUCH_LINK, "resolved context: the last number");
+    resolved_context_refused(text, HEADER_LEN, base, 1, 3, 0, OCTETS, CAPSTAN_BAD_BASE, "resolved context: no URI");
+    resolved_context_refused(text, HEADER_LEN, base, 1, 3, 1, 0, CAPSTAN_BAD_BASE, "resolved context: no URI, and no anchor");
+    resolved_context_refused(text, HEADER_LEN, base, 5, 3, 0, 4, CAPSTAN_NO_OUTPUT_ROOM, "resolved context: room for four octets");
+    resolved_context_refused(text, HEADER_LEN, base, 5, 3, 1, 2, CAPSTAN_NO_OUTPUT_ROOM, "resolved context: room for two octets");
+
+    capstan_length_answer c = capstan_resolved_context(edition, text, HEADER_LEN, base, 5, links, LINK_SLOTS, params, PARAM_SLOTS, 2, 3, 0,
+                                                       out, 5);
+    expect(c.number == CAPSTAN_DONE && c.length == 5 && memcmp(out, "a:b#f", 5) == 0, "resolved context: just room enough");
+    expect_kept(0, 0, 5, "resolved context: just room enough");
+    keep();
+    c = capstan_resolved_context(edition, text, HEADER_LEN, base, 5, links, LINK_SLOTS, params, PARAM_SLOTS, 2, 3, 1, out, OCTETS);
+    expect(c.number == CAPSTAN_DONE && c.length == 3 && memcmp(out, "a:b", 3) == 0, "resolved context: the base");
+    expect_kept(0, 0, 3, "resolved context: the base");
+}
+
 static void write_refused(const uint8_t *text, size_t len, size_t link_count, size_t param_count, size_t out_len, size_t number,
                           const char *what)
 {
@@ -473,6 +535,8 @@ static void test_edition(void)
     test_value();
     test_title();
     test_decode();
+    test_resolve();
+    test_resolved_context();
     test_write();
     test_room();
     test_malformed();
@@ -508,6 +572,20 @@ static void test_unknown_edition(size_t unknown)
     title_refused(text, HEADER_LEN, 3, 2, OCTETS, CAPSTAN_UNKNOWN_EDITION, "title: an unknown edition, and no such link");
     title_refused(text, HEADER_LEN, 2, 0, OCTETS, CAPSTAN_UNKNOWN_EDITION, "title: an unknown edition, and a bad table");
     title_refused(long_text, sizeof long_text, 3, 0, 0, CAPSTAN_UNKNOWN_EDITION, "title: an unknown edition, and 8,193 octets");
+    resolved_context_refused(text, HEADER_LEN, octets("a:b"), 3, 3, 0, OCTETS, CAPSTAN_UNKNOWN_EDITION,
+                             "resolved context: an unknown edition");
+    resolved_context_refused(text, HEADER_LEN, octets("a:b"), 3, 3, 0, 0, CAPSTAN_UNKNOWN_EDITION,
+                             "resolved context: an unknown edition, and no room");
+    resolved_context_refused(text, HEADER_LEN, octets("b"), 1, 3, 0, OCTETS, CAPSTAN_UNKNOWN_EDITION,
+                             "resolved context: an unknown edition, and no URI");
+    resolved_context_refused(text, HEADER_LEN, octets("a:b"), 3, 3, 2, OCTETS, CAPSTAN_UNKNOWN_EDITION,
+                             "resolved context: an unknown edition, and no such link");
+    resolved_context_refused(text, HEADER_LEN, octets("a:b"), 3, 2, 0, OCTETS, CAPSTAN_UNKNOWN_EDITION,
+                             "resolved context: an unknown edition, and a bad table");
+    resolved_context_refused(text, HEADER_LEN, long_text, sizeof long_text, 3, 0, OCTETS, CAPSTAN_UNKNOWN_EDITION,
+                             "resolved context: an unknown edition, and a base of 8,193 octets");
+    resolved_context_refused(long_text, sizeof long_text, octets("a:b"), 3, 3, 0, 0, CAPSTAN_UNKNOWN_EDITION,
+                             "resolved context: an unknown edition, and 8,193 octets");
     write_refused(text, HEADER_LEN, 2, 3, OCTETS, CAPSTAN_UNKNOWN_EDITION, "write: an unknown edition");
     write_refused(text, HEADER_LEN, 2, 3, 0, CAPSTAN_UNKNOWN_EDITION, "write: an unknown edition, and no room");
     write_refused(text, HEADER_LEN, 2, 2, OCTETS, CAPSTAN_UNKNOWN_EDITION, "write: an unknown edition, and a bad table");

@@ -125,7 +125,7 @@ pub struct ContextAnswer {
     pub end: usize,
 }
 
-/// What copying a value or a title, decoding an extended value or writing a table answers.
+/// What copying a value or a title, decoding an extended value, resolving or writing a table answers.
 ///
 /// ```
 /// use capstanbar::ffi::{write, LengthAnswer, RawTable};
@@ -137,7 +137,7 @@ pub struct ContextAnswer {
 #[derive(Clone, Copy, Debug, PartialEq, Eq)]
 pub struct LengthAnswer {
     /// 0 done, 1 too long, 5 bad table, 6 no relation, 7 no output room, 8 no such link, 9 not found,
-    /// 10 unknown edition, 11 bad extended value.
+    /// 10 unknown edition, 11 bad extended value, 12 bad base, 13 bad reference.
     pub number: usize,
     /// The octets put into the output, 0 if refused.
     pub length: usize,

@@ -96,6 +96,30 @@ extern "C" {
         out: *mut u8,
         out_len: usize,
     ) -> LengthAnswer;
+    pub fn capstan_resolve(
+        reference: *const u8,
+        reference_len: usize,
+        base: *const u8,
+        base_len: usize,
+        out: *mut u8,
+        out_len: usize,
+    ) -> LengthAnswer;
+    pub fn capstan_resolved_context(
+        edition: usize,
+        text: *const u8,
+        text_len: usize,
+        base: *const u8,
+        base_len: usize,
+        links: *const usize,
+        link_slots: usize,
+        params: *const usize,
+        param_slots: usize,
+        link_count: usize,
+        param_count: usize,
+        link: usize,
+        out: *mut u8,
+        out_len: usize,
+    ) -> LengthAnswer;
     pub fn capstan_write(
         edition: usize,
         text: *const u8,

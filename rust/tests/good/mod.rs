@@ -6,7 +6,7 @@ use capstanbar::{Counts, Edition, Refusal, Table};
 const OUT: [u8; 64] = [7; 64];
 
 /// What the functions answer, and the output behind them.
-type Asked = (SearchAnswer, ContextAnswer, [LengthAnswer; 3], [u8; 64]);
+type Asked = (SearchAnswer, ContextAnswer, [LengthAnswer; 4], [u8; 64]);
 
 /// What is due of a bad table: nothing is told but the number, and nothing put out.
 const BAD: Asked = (
@@ -20,7 +20,7 @@ const BAD: Asked = (
     [LengthAnswer {
         number: 5,
         length: 0,
-    }; 3],
+    }; 4],
     OUT,
 );
 
@@ -32,6 +32,7 @@ fn asked(edition: usize, raw: RawTable) -> Asked {
         [
             ffi::value(edition, raw, 0, 0, &mut out),
             ffi::title(edition, raw, 0, &mut out),
+            ffi::resolved_context(edition, raw, b"a:b", 0, &mut out),
             ffi::write(edition, raw, &mut out),
         ],
         out,

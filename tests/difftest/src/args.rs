@@ -3,7 +3,8 @@
 use std::path::PathBuf;
 use std::time::Duration;
 
-pub const USAGE: &str = "usage: difftest [--seed S] [--seconds N] [--program PATH]";
+pub const USAGE: &str =
+    "usage: difftest [--seed S] [--seconds N] [--program PATH] [--resolver PATH]";
 
 pub struct Args {
     pub seed: u64,
@@ -11,6 +12,8 @@ pub struct Args {
     pub time: Duration,
     /// The listing program.
     pub program: Option<PathBuf>,
+    /// The resolving program.
+    pub resolver: Option<PathBuf>,
 }
 
 /// What is wrong with them, or the arguments.
@@ -19,6 +22,7 @@ pub fn parse(words: impl IntoIterator<Item = String>) -> Result<Args, String> {
         seed: 1,
         time: Duration::ZERO,
         program: None,
+        resolver: None,
     };
     let mut words = words.into_iter();
     while let Some(word) = words.next() {
@@ -33,6 +37,7 @@ pub fn parse(words: impl IntoIterator<Item = String>) -> Result<Args, String> {
             "--seed" => args.seed = number(next()?)?,
             "--seconds" => args.time = Duration::from_secs(number(next()?)?),
             "--program" => args.program = Some(PathBuf::from(next()?)),
+            "--resolver" => args.resolver = Some(PathBuf::from(next()?)),
             _ => return Err(format!("unknown argument {word}")),
         }
     }

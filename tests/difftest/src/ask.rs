@@ -4,6 +4,7 @@ use crate::codes;
 use crate::compare::{read, read_alike, Asked, Compared};
 use crate::generate::edition::{self, EDITIONS};
 use crate::reached::{Entry, In};
+use crate::resolved;
 use crate::run::Run;
 use crate::shown::{self, Difference};
 use crate::tables::Tables;
@@ -35,6 +36,7 @@ pub fn ask(run: &mut Run, tables: &Tables) -> Compared<()> {
     contexts(run, &asked, links.len())?;
     values(run, &asked, links)?;
     titles::compare(run, &asked, links)?;
+    resolved::compare(run, &asked, links)?;
     let form = writes(run, &asked)?;
     asked.unchanged()?;
     if run.numbers.once_in(UNKNOWN) {
@@ -62,6 +64,7 @@ fn unknown(run: &mut Run, tables: &Tables) -> Compared<()> {
     asked.context(run, b"http://base/", link)?;
     asked.value(run, link, 0, room)?;
     asked.title(run, link, room)?;
+    asked.resolved_context(run, b"http://base/", link, room)?;
     asked.write(run, room)?;
     asked.unchanged()
 }

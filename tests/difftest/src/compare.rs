@@ -9,6 +9,7 @@ mod frame;
 mod output;
 mod read;
 mod reading;
+mod resolve;
 mod texts;
 
 use crate::shown::Difference;
@@ -20,6 +21,7 @@ pub use feed::{Expected, Fed};
 pub use frame::{feed_any, finish_any};
 pub use read::{read, read_alike};
 pub use reading::Reading;
+pub use resolve::Resolving;
 pub use texts::{compare_texts, compare_texts_of};
 
 pub type Compared<T> = Result<T, Difference>;

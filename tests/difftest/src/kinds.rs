@@ -10,6 +10,7 @@ mod names;
 mod octets;
 pub mod program;
 mod references;
+mod resolution;
 mod rooms;
 mod short;
 mod stored;
@@ -35,6 +36,7 @@ pub fn fixed(run: &mut Run, deep: bool) -> Compared<()> {
     names::fixed(run)?;
     texts::fixed(run)?;
     titles::fixed(run, deep)?;
+    resolution::fixed(run, deep)?;
     feeds::fixed(run, deep)
 }
 
@@ -51,6 +53,7 @@ pub fn seeded(run: &mut Run) -> Compared<()> {
     names::seeded(run)?;
     texts::seeded(run)?;
     titles::seeded(run)?;
+    resolution::seeded(run)?;
     feeds::seeded(run)
 }
 

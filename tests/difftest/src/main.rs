@@ -14,6 +14,7 @@ mod kinds;
 mod lent;
 mod numbers;
 mod reached;
+mod resolved;
 mod run;
 mod shown;
 mod state;
@@ -59,6 +60,9 @@ fn main() -> ExitCode {
 fn compare_all(run: &mut Run, args: &Args, start: Instant) -> Compared<()> {
     if let Some(program) = &args.program {
         kinds::program::compare(run, program)?;
+    }
+    if let Some(resolver) = &args.resolver {
+        kinds::program::compare_resolver(run, resolver)?;
     }
     kinds::fixed(run, args.time >= DEEP)?;
     kinds::seeded(run)?;

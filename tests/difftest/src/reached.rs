@@ -1,6 +1,7 @@
 //! Which numbers each entry answered in each edition, and how often; what became of headers in the
 //! older edition, and of targets by themselves; the forms and codes of records; what titles links
-//! have; the codes of names that a link has again; and how far comparisons went.
+//! have; how much references take of the base that they are resolved on; the codes of names that a
+//! link has again; and how far comparisons went.
 
 use crate::generate::edition::{NEWER, OLDER};
 use capstanbar::ffi::CompareAnswer;
@@ -18,6 +19,7 @@ pub enum Entry {
     Context,
     Value,
     Title,
+    ResolvedContext,
     Write,
     Form,
     Code,
@@ -25,6 +27,8 @@ pub enum Entry {
     Target,
     Editions,
     Decode,
+    Resolve,
+    Takes,
     NameCode,
     Again,
     Compare,
@@ -69,7 +73,7 @@ type Allowed = &'static [RangeInclusive<usize>];
 const ALL: &[In] = &[In::Newer, In::Older, In::Unknown];
 const ANY: &[In] = &[In::Any];
 
-const ENTRIES: [(Entry, &str, &[In], Allowed); 21] = [
+const ENTRIES: [(Entry, &str, &[In], Allowed); 24] = [
     (Entry::Read, "read", ALL, &[0..=4]),
     (Entry::Feed, "feed", ALL, &[0..=2, 7..=7]),
     (Entry::Finish, "finish", ALL, &[0..=4, 7..=7]),
@@ -77,6 +81,18 @@ const ENTRIES: [(Entry, &str, &[In], Allowed); 21] = [
     (Entry::Context, "context", ALL, &[0..=1, 5..=5, 8..=8]),
     (Entry::Value, "value", ALL, &[0..=1, 5..=5, 7..=9]),
     (Entry::Title, "title", ALL, &[0..=1, 5..=5, 7..=9]),
+    (
+        Entry::ResolvedContext,
+        "resolved_context",
+        ALL,
+        &[
+            0..=1,
+            5..=5,
+            7..=8,
+            12..=13,
+            RESULT_TOO_LONG..=RESULT_TOO_LONG,
+        ],
+    ),
     (
         Entry::Write,
         "write",
@@ -110,6 +126,23 @@ const ENTRIES: [(Entry, &str, &[In], Allowed); 21] = [
         &[0..=3],
     ),
     (Entry::Decode, "decode", ANY, &[0..=1, 7..=7, 11..=11]),
+    (
+        Entry::Resolve,
+        "resolve",
+        ANY,
+        &[
+            0..=1,
+            7..=7,
+            12..=13,
+            RESULT_TOO_LONG..=RESULT_TOO_LONG,
+        ],
+    ),
+    (
+        Entry::Takes,
+        "references that take of the base nothing, scheme, authority, folder, root behind a host, path, query",
+        ANY,
+        &[0..=6],
+    ),
     (Entry::NameCode, "name_code", ANY, &[0..=LAST_CODE]),
     (
         Entry::Again,
@@ -143,6 +176,9 @@ const DIGITS: usize = 5;
 
 /// Stands for number 1 where the written form is too long, and not the text.
 pub const FORM_TOO_LONG: usize = usize::MAX;
+
+/// Stands for number 1 where what was resolved is too long, and none of what it was resolved from.
+pub const RESULT_TOO_LONG: usize = usize::MAX - 1;
 
 /// How often each entry answered each number in each edition.
 #[derive(Default)]
@@ -230,6 +266,7 @@ fn digits(number: usize) -> usize {
 fn shown(number: usize) -> String {
     match number {
         FORM_TOO_LONG => String::from("1(form)"),
+        RESULT_TOO_LONG => String::from("1(result)"),
         _ => number.to_string(),
     }
 }

@@ -1,6 +1,7 @@
 //! What the crate's view of a table hands out.
 
 mod lookups;
+mod resolved;
 mod titles;
 
 use crate::compare::{equal, Compared};
@@ -11,7 +12,7 @@ use capstanbar::{Counts, Edition, Table};
 use oracle::LinkMeaning;
 
 /// The view is there exactly of tables that are good in their edition, of texts that aren't too long;
-/// it hands out the records' octets, finds parameters by their names, and tells titles.
+/// it hands out the records' octets, finds parameters by their names, tells titles, and resolves.
 pub fn compare(tables: &Tables, meanings: Option<&[LinkMeaning]>) -> Compared<()> {
     let counts = Counts {
         links: tables.link_count,
@@ -37,9 +38,15 @@ pub fn compare(tables: &Tables, meanings: Option<&[LinkMeaning]>) -> Compared<()
         return Ok(());
     };
     let mut links = table.links().zip(&meanings);
+    // The reference takes its time to resolve, so one link has to do.
+    let resolved = tables.text.len() % meanings.len().max(1);
     let found = links.try_for_each(|(link, meaning)| {
         lookups::compare(link, meaning)?;
-        titles::compare(link, meaning)
+        titles::compare(link, meaning)?;
+        match link.number() == resolved {
+            true => resolved::compare(link, meaning),
+            false => Ok(()),
+        }
     });
     found.map_err(|difference| Difference {
         asked: format!("{} in the {}", difference.asked, view()),

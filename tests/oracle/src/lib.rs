@@ -8,8 +8,10 @@
 //! own rules (`references`, `targets`). A header in parts is judged as the
 //! octets that came so far (`feeding`). Extended values are taken apart at their
 //! marks (`extended`), and their octets compared with what the numbers in them
-//! are written as (`utf8`). All else follows the rules' definitions word by
-//! word. Clarity comes before speed.
+//! are written as (`utf8`). References are parted as RFC 3986's regular
+//! expression does, and resolved by its pseudocode, step by step
+//! (`resolution`). All else follows the rules' definitions word by word.
+//! Clarity comes before speed.
 //!
 //! What is asked of headers and tables begins with the number of an edition:
 //! 0 is RFC 8288's, 1 RFC 5988's.
@@ -39,6 +41,10 @@ mod read;
 mod reading;
 mod record;
 mod references;
+mod resolution;
+mod resolve;
+mod resolved_context;
+mod resolving;
 mod search;
 mod sets;
 mod table;
@@ -59,9 +65,12 @@ pub use listing::listing;
 pub use meaning::{meanings, LinkMeaning, ParamMeaning};
 pub use read::{read, ReadAnswer};
 pub use record::PARAM_SLOTS;
+pub use resolve::{resolve, resolved};
+pub use resolved_context::resolved_context;
+pub use resolving::resolving;
 pub use search::search;
 pub use table::good;
-pub use targets::is_reference;
+pub use targets::{is_reference, is_uri};
 pub use title::title;
 pub use tree::Tree;
 pub use value::value;

@@ -2,8 +2,8 @@
 
 /// Done.
 pub const DONE: usize = 0;
-/// Header, all feeds, text, written form or extended value over [`LIMIT`]
-/// octets.
+/// Header, all feeds, text, written form, extended value, reference, base or
+/// result over [`LIMIT`] octets.
 pub const TOO_LONG: usize = 1;
 /// The grammar doesn't derive the header, or none that begins so.
 pub const MALFORMED: usize = 2;
@@ -26,7 +26,12 @@ pub const NOT_FOUND: usize = 9;
 pub const UNKNOWN_EDITION: usize = 10;
 /// The extended value is wrong.
 pub const BAD_EXTENDED: usize = 11;
+/// The base isn't a URI.
+pub const BAD_BASE: usize = 12;
+/// The reference isn't one.
+pub const BAD_REFERENCE: usize = 13;
 
 /// The most octets that a header, a text, a written form or an extended value
-/// may have, and the least of a buffer that gathers a header.
+/// may have, a reference, a base and what they resolve to, and the least of a
+/// buffer that gathers a header.
 pub const LIMIT: usize = 8192;

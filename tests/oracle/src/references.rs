@@ -64,7 +64,7 @@ macro_rules! up_to {
 
 pub static URI_REFERENCE: Rule = Either(&[&URI, &RELATIVE_REF]);
 
-static URI: Rule = Seq(&[&SCHEME, &COLON, &HIER_PART, &QUERY_AND_FRAGMENT]);
+pub static URI: Rule = Seq(&[&SCHEME, &COLON, &HIER_PART, &QUERY_AND_FRAGMENT]);
 
 static RELATIVE_REF: Rule = Seq(&[&RELATIVE_PART, &QUERY_AND_FRAGMENT]);
 

@@ -4,12 +4,17 @@ use crate::edition::Edition;
 use crate::grammar::{before_target, TARGET};
 use crate::places::Places;
 use crate::record::Span;
-use crate::references::URI_REFERENCE;
+use crate::references::{URI, URI_REFERENCE};
 use crate::sets::{after, derives};
 
 /// Whether the octets are a URI-reference of RFC 3986.
 pub fn is_reference(octets: &[u8]) -> bool {
     derives(&URI_REFERENCE, octets)
+}
+
+/// Whether the octets are a URI of RFC 3986.
+pub fn is_uri(octets: &[u8]) -> bool {
+    derives(&URI, octets)
 }
 
 /// Where the first target starts that is closed in the header and is no

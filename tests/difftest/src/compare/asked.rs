@@ -5,11 +5,12 @@ use super::output::equal_output;
 use super::Compared;
 use crate::generate::edition::NEWER;
 use crate::lent::Lent;
-use crate::reached::{Entry, In, FORM_TOO_LONG};
+use crate::reached::{Entry, In, FORM_TOO_LONG, RESULT_TOO_LONG};
 use crate::run::Run;
 use crate::shown::{self, Difference};
 use crate::tables::{LentTables, Tables};
 use capstanbar::ffi;
+use oracle::number::LIMIT;
 
 /// A table that is asked, in lent memory.
 pub struct Asked<'t> {
@@ -140,6 +141,56 @@ impl<'t> Asked<'t> {
         equal_output(asked, answer, &out, expected, copy)
     }
 
+    /// The number of resolving a link's context into that many octets, and the context.
+    pub fn resolved_context(
+        &self,
+        run: &mut Run,
+        base: &[u8],
+        link: usize,
+        room: usize,
+    ) -> Compared<(usize, Vec<u8>)> {
+        let asked = || {
+            let (base, table) = (shown::octets(base), shown::table(self.tables));
+            format!("resolved context of link {link}, base {base}, into {room} octets, in {table}")
+        };
+        let lent = Lent::holding(base, run.salt());
+        let mut out = Lent::new(room, run.salt());
+        let t = self.tables;
+        let answer = ffi::resolved_context(
+            t.edition,
+            self.lent.raw(),
+            lent.room(),
+            link,
+            out.room_mut(),
+        );
+        let mut context = vec![0; room];
+        let mut reference = |edition| {
+            oracle::resolved_context(
+                edition,
+                &t.text,
+                base,
+                &t.links,
+                &t.params,
+                t.link_count,
+                t.param_count,
+                link,
+                &mut context,
+            )
+        };
+        let expected = reference(t.edition);
+        let is_long = [&t.text[..], base]
+            .iter()
+            .any(|octets| octets.len() > LIMIT);
+        let told = |number| match number {
+            1 if !is_long => RESULT_TOO_LONG,
+            number => number,
+        };
+        let else_told = || told(reference(NEWER).0);
+        self.count(run, Entry::ResolvedContext, told(answer.number), else_told);
+        equal_rooms(asked, "base", &lent, base)?;
+        equal_output(asked, answer, &out, expected, context)
+    }
+
     /// The number of writing into that many octets, and the form.
     pub fn write(&self, run: &mut Run, room: usize) -> Compared<(usize, Vec<u8>)> {
         let asked = || {
@@ -163,7 +214,7 @@ impl<'t> Asked<'t> {
         };
         let expected = reference(t.edition);
         let told = |number| match number {
-            1 if t.text.len() <= oracle::number::LIMIT => FORM_TOO_LONG,
+            1 if t.text.len() <= LIMIT => FORM_TOO_LONG,
             number => number,
         };
         let else_told = || told(reference(NEWER).0);

@@ -3,6 +3,7 @@
 mod codes;
 mod comparisons;
 mod components;
+mod contexts;
 mod editions;
 mod extended;
 mod feeds;
@@ -11,8 +12,10 @@ mod limits;
 mod program;
 mod questions;
 mod references;
+mod resolution;
 mod rfc8288;
 mod rows;
+mod segments;
 mod tables;
 mod targets;
 mod titles;
@@ -127,6 +130,23 @@ impl Tables {
         let answer = oracle::title(
             self.edition,
             &self.text,
+            &self.link_slots,
+            &self.param_slots,
+            self.link_count,
+            self.param_count,
+            link,
+            &mut out,
+        );
+        output(answer, out)
+    }
+
+    /// Resolves a link's context into that many octets.
+    fn resolved_context(&self, base: &[u8], link: usize, room: usize) -> Result<Vec<u8>, usize> {
+        let mut out = vec![HELD_OCTET; room];
+        let answer = oracle::resolved_context(
+            self.edition,
+            &self.text,
+            base,
             &self.link_slots,
             &self.param_slots,
             self.link_count,

@@ -1,4 +1,4 @@
-//! The listing program.
+//! The listing program, and the resolving one.
 
 use std::io::Write;
 use std::process::{Command, Output, Stdio};
@@ -16,10 +16,14 @@ fn run(arguments: &[&str], input: &[u8]) -> Output {
     child.wait_with_output().unwrap()
 }
 
-fn assert_listed(input: &[u8], lines: &str) {
-    let output = run(&["list"], input);
+fn assert_printed(arguments: &[&str], input: &[u8], lines: &str) {
+    let output = run(arguments, input);
     assert!(output.status.success());
     assert_eq!(String::from_utf8(output.stdout).unwrap(), lines);
+}
+
+fn assert_listed(input: &[u8], lines: &str) {
+    assert_printed(&["list"], input, lines);
 }
 
 #[test]
@@ -62,8 +66,52 @@ fn lends_room_for_256_links_and_1024_parameters() {
 }
 
 #[test]
+fn resolves_targets_and_contexts() {
+    let base = "http://a/b/c/d;p?q#f";
+    let resolved = |header: &str, lines| {
+        assert_printed(&["resolve", base], header.as_bytes(), lines);
+    };
+    resolved("", "");
+    resolved("\n", "");
+    resolved("<>", "0\thttp://a/b/c/d;p?q\thttp://a/b/c/d;p?q\n");
+    resolved(
+        "<../g>;anchor=\"\\#s\", <//h>;anchor\n",
+        "0\thttp://a/b/g\thttp://a/b/c/d;p?q#s\n1\thttp://h\thttp://a/b/c/d;p?q\n",
+    );
+    // A refused link has its own line, and the others theirs.
+    resolved(
+        "<a>;anchor=%,<b:c>;anchor=\"x:y\",<d>;anchor=\"[\"",
+        "refused\t13\t0\n1\tb:c\tx:y\nrefused\t13\t0\n",
+    );
+    resolved("<a>;rel=next;\n", "refused\t2\t13\n");
+    resolved("\n\n", "refused\t2\t0\n");
+    resolved(&"<>,".repeat(257), "refused\t3\t0\n");
+}
+
+#[test]
+fn a_wrong_header_comes_first_and_then_a_wrong_base() {
+    let long = "a:".to_string() + &"b".repeat(8191);
+    for header in [&b""[..], b"<a>", b"<a>;anchor=%\n", b"<a>,<b>"] {
+        for base in [&[][..], &[""], &["b"], &["a:b#c#d"], &["a:b", "a:b"]] {
+            let arguments = [&["resolve"], base].concat();
+            assert_printed(&arguments, header, "refused\t12\t0\n");
+            assert_printed(&arguments, b"<1:a>", "refused\t2\t1\n");
+        }
+        assert_printed(&["resolve", &long], header, "refused\t1\t0\n");
+        assert_printed(&["resolve", &long], b"<1:a>", "refused\t2\t1\n");
+    }
+}
+
+#[test]
+fn a_result_may_be_too_long() {
+    let base = "a:/".to_string() + &"b".repeat(8188) + "/";
+    let lines = format!("refused\t1\t0\n1\t{base}\t{base}\nrefused\t1\t0\n");
+    assert_printed(&["resolve", &base], b"<c>,<>,<>;anchor=c", &lines);
+}
+
+#[test]
 fn knows_no_other_command() {
-    for arguments in [&[][..], &["read"], &["list", "list"]] {
+    for arguments in [&[][..], &["read"], &["list", "list"], &["vectors", "a"]] {
         let output = run(arguments, b"");
         assert_eq!(output.status.code(), Some(2));
         assert!(output.stdout.is_empty());

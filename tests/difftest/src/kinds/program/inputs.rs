@@ -20,7 +20,7 @@ pub fn inputs() -> BTreeSet<Vec<u8>> {
 }
 
 /// One fewer than there is room for, just as many, and one more.
-fn rooms() -> Vec<Vec<u8>> {
+pub fn rooms() -> Vec<Vec<u8>> {
     let mut inputs = vec![[&b"<>,".repeat(256)[..], b"<>", &b";x".repeat(1025)].concat()];
     for links in [255, 256, 257] {
         inputs.push(b"<>,".repeat(links));
