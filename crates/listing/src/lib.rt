@@ -13,7 +13,7 @@ use kinds::LinkNumber;
 use records::LinkRecord;
 
 // Hands a line out.
-fn put(line: Line)
+pub fn put(line: Line)
     requires { ⌜ Within (line .len) (line .octets) ⌝ }
 {
     let octets = line.octets;

@@ -1,0 +1,37 @@
+-- The link's answer tells its line.
+use native.Mathlib.Omega.{arith}
+use borrow.Author.Needs.{needs}
+use Rattle.resolve_listing.proofs.AnswerLine.{resolved-held}
+use Rattle.resolve_listing.proofs.put_link.Statement.{statement}
+use Rattle.resolve_listing.proofs.put_link.Tie as tie
+
+resolve-link-requires : tie.Need-resolve-link-requires
+resolve-link-requires c κs = search needs
+
+put-answer-requires : tie.Need-put-answer-requires
+put-answer-requires c κs = (resolved-held (c .before .before .before .before .before .before .before .resolve-link .ensures), search needs)
+
+same-length : tie.Need-same-length
+same-length c = search needs
+
+same-length-2 : tie.Need-same-length-2
+same-length-2 c = search needs
+
+same-length-3 : tie.Need-same-length-3
+same-length-3 c = search needs
+
+returns : tie.Need-returns
+returns c =
+    let put = c .before .before .put-answer .ensures in
+    (record { answer = c .before .before .before .before .before .before .before .before .before .before .resolve-link .result; resolved = c .before .before .before .before .before .before .before .before .before .before .resolve-link .ensures; line = put .0 }, put .1)
+
+pub put-link-spec : {M : Type 1} → statement M
+put-link-spec =
+    tie.close
+    (tie.spec
+    resolve-link-requires
+    put-answer-requires
+    same-length
+    same-length-2
+    same-length-3
+    returns)

@@ -1,0 +1,2 @@
+-- What the crate `resolved_lines` means by its words.
+pub mod ResolvedLine
