@@ -81,11 +81,11 @@ module _
         pub context-room : to₂ + length context + 1 ≤ length line₂
         context-room = column-room context lf [] targeted
 
-        pub line-inside : {line₃ : List ℕ} {to₃ : ℕ} → Put line₂ line₃ to₂ to₃ (context ++ (lf ∷ [])) → to₃ ≤ length line₃
-        line-inside {line₃} r =
-            omega (arith, context-room, r .place, length-append context (lf ∷ []), ap length (r .buffer), length-sets line₂ to₂ (context ++ (lf ∷ [])))
-
-        pub whole-line : {line₃ : List ℕ} {to₃ : ℕ} → Put line₂ line₃ to₂ to₃ (context ++ (lf ∷ []))
-            → Put line line₃ 0 to₃ (resolvedLine n target context)
-        whole-line {line₃} {to₃} r =
-            subst (λ (k : ℕ). Put line line₃ k to₃ (resolvedLine n target context)) start (finish (column context lf [] targeted r))
+        -- the line is put, and ends within the buffer
+        pub line-put : {line₃ : List ℕ} {to₃ : ℕ} → Put line₂ line₃ to₂ to₃ (context ++ (lf ∷ []))
+            → Put line line₃ 0 to₃ (resolvedLine n target context) × (to₃ ≤ length line₃)
+        line-put {line₃} {to₃} r =
+            let kept = length-sets line₂ to₂ (context ++ (lf ∷ [])) in (
+              subst (λ (k : ℕ). Put line line₃ k to₃ (resolvedLine n target context)) start (finish (column context lf [] targeted r)),
+              omega (arith, context-room, r .place, length-append context (lf ∷ []), ap length (r .buffer), kept),
+            )

@@ -19,9 +19,10 @@ start-requires c κs = search needs
 
 put-part-requires : tie.Need-put-part-requires
 put-part-requires c κs =
-    let cut = c .before .before .before .before .before .pre .0 .1 in (
+    let start = c .before .before .before .before .before in
+    let cut = start .pre .0 .1 in (
       record { ordered = omega arith; inside = omega (arith, cut) },
-      omega (arith, c .start .ensures, cut, ap length (whole-part (octetsOf (c .before .before .before .before .before .args .from)) cut), c .before .before .before .before .before .pre .1),
+      omega (arith, c .start .ensures, cut, ap length (whole-part (octetsOf (start .args .from)) cut), start .pre .1),
     )
 
 same-length : tie.Need-same-length
@@ -29,9 +30,11 @@ same-length c = search needs
 
 returns : tie.Need-returns
 returns c =
-    let cut = c .before .before .before .before .before .before .before .before .pre .0 .1 in
-    let p = rw (c .before .before .before .start .ensures, whole-part (octetsOf (c .before .before .before .before .before .before .before .before .args .from)) cut) at (c .before .before .put-part .ensures) in
-    (p, put-inside p (omega (arith, cut, c .before .before .before .before .before .before .before .before .pre .1)))
+    let start = c .before .before .before .before .before .before .before .before in
+    let cut = start .pre .0 .1 in
+    let whole = whole-part (octetsOf (start .args .from)) cut in
+    let p = rw (c .before .before .before .start .ensures, whole) at (c .before .before .put-part .ensures) in
+    (p, put-inside p (omega (arith, cut, start .pre .1)))
 
 pub copy-line-spec : {M : Type 1} → statement M
 copy-line-spec =

@@ -11,7 +11,9 @@ enum-known-answer : tie.Need-enum-known-answer
 enum-known-answer c = search needs
 
 put-on-base-requires : tie.Need-put-on-base-requires
-put-on-base-requires c κs = (done-targets (c .before .before .before .before .before .before .before .before .before .before .before .before .read .ensures) (c .before .before .before .before .before .before .answer .given .1), search needs)
+put-on-base-requires c κs =
+    let known = c .before .before .before .before .before .before in
+    (done-targets (known .before .before .before .before .before .before .read .ensures) (known .answer .given .1), search needs)
 
 same-length : tie.Need-same-length
 same-length c = search needs
@@ -29,7 +31,9 @@ same-length-5 : tie.Need-same-length-5
 same-length-5 c = search needs
 
 returns : tie.Need-returns
-returns c = rw (c .before .before .before .before .before .before .before .before .before .before .before .before .before .answer .given .1) at (c .before .before .before .before .before .before .before .before .before .before .before .before .before .before .before .before .before .before .before .read .ensures)
+returns c =
+    let known = c .before .before .before .before .before .before .before .before .before .before .before .before .before in
+    rw (known .answer .given .1) at (known .before .before .before .before .before .before .read .ensures)
 
 numbers-requires : tie.Need-numbers-requires
 numbers-requires c κs = search needs

@@ -1,5 +1,4 @@
 -- The line is put by the answer: both buffers' octets, or the refusal's number.
-use Prim.Native.Nat.{_≤_}
 use native.Mathlib.Omega.{arith}
 use mathlib.Core.Path.{_≡_}
 use lib.ListN.{length}
@@ -13,18 +12,21 @@ enum-known-answer c = search needs
 
 slice-aggregate-put-line : tie.Need-slice-aggregate-put-line
 slice-aggregate-put-line c =
-    let a = c .before .before .before .before .before .before .before .args in
-    first-cut (a .target .now) (a .context .now) (c .before .before .before .before .before .before .before .pre .0) (c .before .before .answer .given .1)
+    let known = c .before .before in
+    let start = known .before .before .before .before .before in
+    first-cut (start .args .target .now) (start .args .context .now) (start .pre .0) (known .answer .given .1)
 
 slice-aggregate-put-line-2 : tie.Need-slice-aggregate-put-line-2
 slice-aggregate-put-line-2 c =
-    let a = c .before .before .before .before .before .before .before .before .args in
-    second-cut (a .target .now) (a .context .now) (c .before .before .before .before .before .before .before .before .pre .0) (c .before .before .before .answer .given .1)
+    let known = c .before .before .before in
+    let start = known .before .before .before .before .before in
+    second-cut (start .args .target .now) (start .args .context .now) (start .pre .0) (known .answer .given .1)
 
 put-line-requires : tie.Need-put-line-requires
 put-line-requires c κs =
-    let a = c .before .before .before .before .before .before .before .before .before .args in
-    line-room (a .target .now) (a .context .now) (c .before .before .before .before .before .before .before .before .before .pre .0) (c .before .before .before .before .answer .given .1) (c .before .before .before .before .before .before .before .before .before .pre .1)
+    let known = c .before .before .before .before in
+    let start = known .before .before .before .before .before in
+    line-room (start .args .target .now) (start .args .context .now) (start .pre .0) (known .answer .given .1) (start .pre .1)
 
 enum-known-answer-2 : tie.Need-enum-known-answer-2
 enum-known-answer-2 c = search needs
@@ -49,8 +51,11 @@ same-length-2 c = search needs
 
 returns-2 : tie.Need-returns-2
 returns-2 c =
-    let put = c .before .before .copy-line .ensures in
-    (rw (c .before .before .before .before .before .before .answer2 .given .1) (rw (c .before .before .before .before .refused-line .ensures .is) at (put .0)), put .1)
+    let put = c .before .before in
+    let known = put .before .before .before .before in (
+      rw (known .answer2 .given .1) (rw (put .before .before .refused-line .ensures .is) at (put .copy-line .ensures .0)),
+      put .copy-line .ensures .1,
+    )
 
 pub put-answer-spec : {M : Type 1} → statement M
 put-answer-spec =

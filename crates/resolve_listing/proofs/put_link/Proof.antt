@@ -1,5 +1,4 @@
 -- The link's answer tells its line.
-use native.Mathlib.Omega.{arith}
 use borrow.Author.Needs.{needs}
 use Rattle.resolve_listing.proofs.AnswerLine.{resolved-held}
 use Rattle.resolve_listing.proofs.put_link.Statement.{statement}
@@ -22,8 +21,9 @@ same-length-3 c = search needs
 
 returns : tie.Need-returns
 returns c =
-    let put = c .before .before .put-answer .ensures in
-    (record { answer = c .before .before .before .before .before .before .before .before .before .before .resolve-link .result; resolved = c .before .before .before .before .before .before .before .before .before .before .resolve-link .ensures; line = put .0 }, put .1)
+    let put = c .before .before in
+    let link = put .before .before .before .before .before .before .before .before .resolve-link in
+    (record { answer = link .result; resolved = link .ensures; line = put .put-answer .ensures .0 }, put .put-answer .ensures .1)
 
 pub put-link-spec : {M : Type 1} → statement M
 put-link-spec =

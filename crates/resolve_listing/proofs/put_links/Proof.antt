@@ -21,13 +21,19 @@ loop-holds : tie.Need-loop-holds Inv-loop μ-loop
 loop-holds c = search needs
 
 put-link-requires : tie.Need-put-link-requires Inv-loop μ-loop
-put-link-requires c κs = (c .before .before .before .before .before .before .before .before .before .before .before .before .before .before .before .pre .0 (c .before .before .before .before .before .before .loop .i .0) (c .before .before .before .if1 .taken), omega (arith, c .before .before .before .before .before .before .before .before .before .before .before .before .before .before .before .pre .1, c .before .before .before .before .before .before .loop .inv))
+put-link-requires c κs =
+    let taken = c .before .before .before in
+    let loop = taken .before .before .before in
+    let start = loop .before .before .before .before .before .before .before .before .before in
+    (start .pre .0 (loop .loop .i .0) (taken .if1 .taken), omega (arith, start .pre .1, loop .loop .inv))
 
 slice-reshare-prefix-write-all : tie.Need-slice-reshare-prefix-write-all Inv-loop μ-loop
 slice-reshare-prefix-write-all c = search needs
 
 slice-aggregate-write-all : tie.Need-slice-aggregate-write-all Inv-loop μ-loop
-slice-aggregate-write-all c = simp length-take (omega (arith, c .before .before .before .before .before .before .before .put-link .ensures .1))
+slice-aggregate-write-all c =
+    let put = c .before .before .before .before .before .before .before .put-link in
+    simp length-take (omega (arith, put .ensures .1))
 
 write-all-requires : tie.Need-write-all-requires Inv-loop μ-loop
 write-all-requires c κs = search needs

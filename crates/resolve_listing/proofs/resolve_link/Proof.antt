@@ -40,10 +40,13 @@ same-length c = search needs
 
 returns : tie.Need-returns
 returns c =
-    let a = c .before .before .before .before .before .before .before .before .before .before .before .before .before .before .before .before .args in
+    let resolved = c .before .before .before .before .before in
+    let link = resolved .before .before .before .before in
+    let start = link .before .before .before .before .before .before .before in
+    let a = start .args in
     let t = tableOf (a .text .now) (a .links .now) (a .params .now) (a .counts .links) (a .counts .params) in
-    no-target (a .edition) t (a .base .now) (a .link .0) (a .target .now) (a .context .now) (c .before .before .before .before .before .before .before .before .before .before .before .before .before .before .before .before .pre) (c .before .before .before .before .before .before .before .before .before .link-at .ensures) (c .before .before .before .before .before .resolve .ensures)
-    (c .before .first .given .1)
+    no-target (a .edition) t (a .base .now) (a .link .0) (a .target .now) (a .context .now) (start .pre) (link .link-at .ensures)
+    (resolved .resolve .ensures) (c .before .first .given .1)
 
 same-length-2 : tie.Need-same-length-2
 same-length-2 c = search needs
@@ -53,10 +56,15 @@ same-length-3 c = search needs
 
 returns-2 : tie.Need-returns-2
 returns-2 c =
-    let a = c .before .before .before .before .before .before .before .before .before .before .before .before .before .before .before .before .before .before .before .before .before .before .before .args in
+    let context = c .before .before .before .before .before in
+    let resolved = context .before .before .before .before .before .before .before in
+    let link = resolved .before .before .before .before in
+    let start = link .before .before .before .before .before .before .before in
+    let a = start .args in
     let t = tableOf (a .text .now) (a .links .now) (a .params .now) (a .counts .links) (a .counts .params) in
-    no-context (a .edition) t (a .base .now) (a .link .0) (a .target .now) (a .context .now) (c .before .before .before .before .before .before .before .before .before .before .before .before .before .before .before .before .before .before .before .before .before .before .before .pre) (c .before .before .before .before .before .before .before .before .before .before .before .before .before .before .before .before .link-at .ensures) (c .before .before .before .before .before .before .before .before .before .before .before .before .resolve .ensures)
-    (c .before .before .before .before .before .before .before .before .first2 .given .1) (c .before .before .before .before .before .resolved-context .ensures) (c .before .second .given .1)
+    no-context (a .edition) t (a .base .now) (a .link .0) (a .target .now) (a .context .now) (start .pre) (link .link-at .ensures)
+    (resolved .resolve .ensures) (context .before .before .before .first2 .given .1) (context .resolved-context .ensures)
+    (c .before .second .given .1)
 
 same-length-4 : tie.Need-same-length-4
 same-length-4 c = search needs
@@ -66,10 +74,15 @@ same-length-5 c = search needs
 
 returns-3 : tie.Need-returns-3
 returns-3 c =
-    let a = c .before .before .before .before .before .before .before .before .before .before .before .before .before .before .before .before .before .before .before .before .before .before .before .args in
+    let context = c .before .before .before .before .before in
+    let resolved = context .before .before .before .before .before .before .before in
+    let link = resolved .before .before .before .before in
+    let start = link .before .before .before .before .before .before .before in
+    let a = start .args in
     let t = tableOf (a .text .now) (a .links .now) (a .params .now) (a .counts .links) (a .counts .params) in
-    both-written (a .edition) t (a .base .now) (a .link .0) (a .target .now) (a .context .now) (c .before .before .before .before .before .before .before .before .before .before .before .before .before .before .before .before .before .before .before .before .before .before .before .pre) (c .before .before .before .before .before .before .before .before .before .before .before .before .before .before .before .before .link-at .ensures) (c .before .before .before .before .before .before .before .before .before .before .before .before .resolve .ensures)
-    (c .before .before .before .before .before .before .before .before .first2 .given .1) (c .before .before .before .before .before .resolved-context .ensures) (c .before .second2 .given .1)
+    both-written (a .edition) t (a .base .now) (a .link .0) (a .target .now) (a .context .now) (start .pre) (link .link-at .ensures)
+    (resolved .resolve .ensures) (context .before .before .before .first2 .given .1) (context .resolved-context .ensures)
+    (c .before .second2 .given .1)
 
 pub resolve-link-spec : {M : Type 1} → statement M
 resolve-link-spec =

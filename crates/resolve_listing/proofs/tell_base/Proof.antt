@@ -16,10 +16,14 @@ is-uri-requires : tie.Need-is-uri-requires
 is-uri-requires c κs = search needs
 
 returns-2 : tie.Need-returns-2
-returns-2 c = right (omega (arith, c .before .before .before .before .if1 .left)) (uri-told (c .before .is-uri .result) (c .before .is-uri .ensures) (c .if2 .taken))
+returns-2 c =
+    let judged = c .before .is-uri in
+    right (omega (arith, c .before .before .before .before .if1 .left)) (uri-told (judged .result) (judged .ensures) (c .if2 .taken))
 
 returns-3 : tie.Need-returns-3
-returns-3 c = no-uri (omega (arith, c .before .before .before .before .if1 .left)) (uri-denied (c .before .is-uri .result) (c .before .is-uri .ensures) (c .if2 .left))
+returns-3 c =
+    let judged = c .before .is-uri in
+    no-uri (omega (arith, c .before .before .before .before .if1 .left)) (uri-denied (judged .result) (judged .ensures) (c .if2 .left))
 
 pub tell-base-spec : {M : Type 1} → statement M
 tell-base-spec = tie.close (tie.spec returns table-requires is-uri-requires returns-2 returns-3)

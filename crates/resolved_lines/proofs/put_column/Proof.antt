@@ -16,8 +16,9 @@ put-part-requires c κs =
 put-requires : tie.Need-put-requires
 put-requires c κs =
     let start = c .before .before .before .before .before .before .before in
-    let s = start .args .s .now in
-    end-room (start .args .line .now) (start .args .at .0) (start .args .end) s (start .pre) (rw (take-length s) at (c .before .before .before .put-part .ensures))
+    let args = start .args in
+    let put = rw (take-length (args .s .now)) at (c .before .before .before .put-part .ensures) in
+    end-room (args .line .now) (args .at .0) (args .end) (args .s .now) (start .pre) put
 
 same-length : tie.Need-same-length
 same-length c = search needs
@@ -25,9 +26,9 @@ same-length c = search needs
 returns : tie.Need-returns
 returns c =
     let start = c .before .before .before .before .before .before .before .before .before .before in
-    let s = start .args .s .now in
-    ended (start .args .line .now) (start .args .at .0) (start .args .end) s (start .pre) (rw (take-length s) at (c .before .before .before .before .before .before .put-part .ensures))
-    (c .before .before .put .ensures)
+    let args = start .args in
+    let put = rw (take-length (args .s .now)) at (c .before .before .before .before .before .before .put-part .ensures) in
+    ended (args .line .now) (args .at .0) (args .end) (args .s .now) (start .pre) put (c .before .before .put .ensures)
 
 pub put-column-spec : {M : Type 1} → statement M
 put-column-spec = tie.close (tie.spec put-part-requires put-requires same-length returns)

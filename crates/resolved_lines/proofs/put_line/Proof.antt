@@ -2,7 +2,7 @@
 use Prim.Native.Nat.{_^_, _<_}
 use borrow.Author.Needs.{needs}
 use Rattle.resolved_lines.proofs.Digits.{digits-are, digits-short}
-use Rattle.resolved_lines.proofs.LinePut.{number-room, target-room, context-room, line-inside, whole-line}
+use Rattle.resolved_lines.proofs.LinePut.{number-room, target-room, context-room, line-put}
 use Rattle.resolved_lines.proofs.put_line.Statement.{statement}
 use Rattle.resolved_lines.proofs.put_line.Tie as tie
 
@@ -29,36 +29,46 @@ put-column-requires c κs =
 
 put-column-requires-2 : tie.Need-put-column-requires-2
 put-column-requires-2 c κs =
-    let args = c .before .before .before .before .before .before .before .before .before .before .before .before .args in
-    let d = c .before .before .before .before .before .before .before .decimal .ensures in
+    let first = c .before .before .before in
+    let decimal = first .before .before .before .before in
+    let start = decimal .before .before .before .before .before in
+    let args = start .args in
+    let d = decimal .decimal .ensures in
     let small : args .number < 2 ^ 64 = search needs in
-    target-room (args .number) (args .target .now) (args .context .now) (args .line .now) (c .before .before .before .before .start .ensures)
-    (digits-short (d .1 .0) (d .1 .1) small (d .0 .1)) (c .before .before .before .before .before .before .before .before .before .before .before .before .pre) (rw (digits-are (d .1 .0) (d .1 .1)) at (c .before .before .before .put-column .ensures))
+    let short = digits-short (d .1 .0) (d .1 .1) small (d .0 .1) in
+    target-room (args .number) (args .target .now) (args .context .now) (args .line .now) (first .before .start .ensures) short
+    (start .pre) (rw (digits-are (d .1 .0) (d .1 .1)) at (first .put-column .ensures))
 
 put-column-requires-3 : tie.Need-put-column-requires-3
 put-column-requires-3 c κs =
-    let args = c .before .before .before .before .before .before .before .before .before .before .before .before .before .before .before .before .args in
-    let d = c .before .before .before .before .before .before .before .before .before .before .before .decimal .ensures in
+    let second = c .before .before .before in
+    let first = second .before .before .before .before in
+    let decimal = first .before .before .before .before in
+    let start = decimal .before .before .before .before .before in
+    let args = start .args in
+    let d = decimal .decimal .ensures in
     let small : args .number < 2 ^ 64 = search needs in
-    context-room (args .number) (args .target .now) (args .context .now) (args .line .now) (c .before .before .before .before .before .before .before .before .start .ensures)
-    (digits-short (d .1 .0) (d .1 .1) small (d .0 .1)) (c .before .before .before .before .before .before .before .before .before .before .before .before .before .before .before .before .pre) (rw (digits-are (d .1 .0) (d .1 .1)) at (c .before .before .before .before .before .before .before .put-column .ensures))
-    (c .before .before .before .put-column2 .ensures)
+    let short = digits-short (d .1 .0) (d .1 .1) small (d .0 .1) in
+    context-room (args .number) (args .target .now) (args .context .now) (args .line .now) (first .before .start .ensures) short
+    (start .pre) (rw (digits-are (d .1 .0) (d .1 .1)) at (first .put-column .ensures)) (second .put-column2 .ensures)
 
 same-length : tie.Need-same-length
 same-length c = search needs
 
 returns : tie.Need-returns
 returns c =
-    let args = c .before .before .before .before .before .before .before .before .before .before .before .before .before .before .before .before .before .before .before .args in
-    let d = c .before .before .before .before .before .before .before .before .before .before .before .before .before .before .decimal .ensures in
+    let third = c .before .before in
+    let second = third .before .before .before .before in
+    let first = second .before .before .before .before in
+    let decimal = first .before .before .before .before in
+    let start = decimal .before .before .before .before .before in
+    let args = start .args in
+    let d = decimal .decimal .ensures in
     let small : args .number < 2 ^ 64 = search needs in
     let short = digits-short (d .1 .0) (d .1 .1) small (d .0 .1) in
-    let first = rw (digits-are (d .1 .0) (d .1 .1)) at (c .before .before .before .before .before .before .before .before .before .before .put-column .ensures) in (
-      whole-line (args .number) (args .target .now) (args .context .now) (args .line .now) (c .before .before .before .before .before .before .before .before .before .before .before .start .ensures) short (c .before .before .before .before .before .before .before .before .before .before .before .before .before .before .before .before .before .before .before .pre) first
-          (c .before .before .before .before .before .before .put-column2 .ensures) (c .before .before .put-column3 .ensures),
-      line-inside (args .number) (args .target .now) (args .context .now) (args .line .now) (c .before .before .before .before .before .before .before .before .before .before .before .start .ensures) short (c .before .before .before .before .before .before .before .before .before .before .before .before .before .before .before .before .before .before .before .pre) first
-          (c .before .before .before .before .before .before .put-column2 .ensures) (c .before .before .put-column3 .ensures),
-    )
+    let number = rw (digits-are (d .1 .0) (d .1 .1)) at (first .put-column .ensures) in
+    line-put (args .number) (args .target .now) (args .context .now) (args .line .now) (first .before .start .ensures) short
+    (start .pre) number (second .put-column2 .ensures) (third .put-column3 .ensures)
 
 pub put-line-spec : {M : Type 1} → statement M
 put-line-spec =
