@@ -18,7 +18,7 @@ use Rattle.kinds.specs.declared.Counts.{Counts}
 use Rattle.answers.specs.Read.{readNumbers, readOut}
 use Rattle.answers.specs.declared.read_answer.ReadAnswer.{ReadAnswer}
 use Rattle.answers.specs.declared.read_answer.ReadAnswer.the-variants.{Done}
-use Rattle.resolve_listing.specs.Held.{TargetHeld, TargetsHeld}
+use Rattle.link_lines.specs.Held.{TargetHeld, TargetsHeld}
 
 good-target : {extra : Extra} {t : Table} → Good extra t → (i : ℕ) → i < t .linkCount → TargetHeld (t .text) (t .linkSlots) i
 good-target {extra} {t} g i h =

@@ -1,9 +1,9 @@
 -- The target's octets are those of the link's record; what both entries answer tells how the link is resolved.
 use borrow.Author.Needs.{needs}
 use Rattle.tables.specs.Table.{tableOf}
-use Rattle.resolve_listing.proofs.LinkOutcome.{no-target, no-context, both-written}
-use Rattle.resolve_listing.proofs.resolve_link.Statement.{statement}
-use Rattle.resolve_listing.proofs.resolve_link.Tie as tie
+use Rattle.link_lines.proofs.LinkOutcome.{no-target, no-context, both-written}
+use Rattle.link_lines.proofs.resolve_link.Statement.{statement}
+use Rattle.link_lines.proofs.resolve_link.Tie as tie
 
 link-at-requires : tie.Need-link-at-requires
 link-at-requires c κs = search needs

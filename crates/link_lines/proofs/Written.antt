@@ -23,7 +23,7 @@ use Rattle.answers.specs.declared.Refusal.{Refusal}
 use Rattle.answers.specs.declared.length_answer.LengthAnswer.{LengthAnswer}
 use Rattle.answers.specs.declared.length_answer.LengthAnswer.the-variants.{Wrote, Refused}
 use Rattle.answers.proofs.Refusals.{no-refusal-is-done}
-use Rattle.resolve_listing.specs.Link.{over}
+use Rattle.link_lines.specs.Link.{over}
 
 -- with number 0, some octets are held
 abbrev Held : List ℕ → CopyOut → Type 0

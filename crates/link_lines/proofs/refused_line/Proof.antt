@@ -1,7 +1,7 @@
 -- The numbers are those of such an answer.
 use borrow.Author.Needs.{needs}
-use Rattle.resolve_listing.proofs.refused_line.Statement.{statement}
-use Rattle.resolve_listing.proofs.refused_line.Tie as tie
+use Rattle.link_lines.proofs.refused_line.Statement.{statement}
+use Rattle.link_lines.proofs.refused_line.Tie as tie
 
 numbers-requires : tie.Need-numbers-requires
 numbers-requires c κs = search needs

@@ -3,9 +3,9 @@ use native.Mathlib.Omega.{arith}
 use mathlib.Core.Path.{_≡_}
 use lib.ListN.{length}
 use borrow.Author.Needs.{needs}
-use Rattle.resolve_listing.proofs.AnswerLine.{first-cut, second-cut, line-room}
-use Rattle.resolve_listing.proofs.put_answer.Statement.{statement}
-use Rattle.resolve_listing.proofs.put_answer.Tie as tie
+use Rattle.link_lines.proofs.AnswerLine.{first-cut, second-cut, line-room}
+use Rattle.link_lines.proofs.put_answer.Statement.{statement}
+use Rattle.link_lines.proofs.put_answer.Tie as tie
 
 enum-known-answer : tie.Need-enum-known-answer
 enum-known-answer c = search needs

@@ -15,10 +15,10 @@ use Rattle.answers.specs.Length.{lengthNumbers, lengthOut}
 use Rattle.answers.specs.declared.Refusal.{Refusal}
 use Rattle.answers.specs.declared.length_answer.LengthAnswer.{LengthAnswer}
 use Rattle.answers.specs.declared.length_answer.LengthAnswer.the-variants as answer
-use Rattle.resolve_listing.specs.Held.{TargetHeld}
-use Rattle.resolve_listing.specs.Link.{targetOf, over, LinkOn, target-refused, context-refused, both}
-use Rattle.resolve_listing.specs.declared.LinkResolved.the-variants.{Resolved, Refused}
-use Rattle.resolve_listing.proofs.Written.{wrote, left, resolve-held, context-held}
+use Rattle.link_lines.specs.Held.{TargetHeld}
+use Rattle.link_lines.specs.Link.{targetOf, over, LinkOn, target-refused, context-refused, both}
+use Rattle.link_lines.specs.declared.LinkResolved.the-variants.{Resolved, Refused}
+use Rattle.link_lines.proofs.Written.{wrote, left, resolve-held, context-held}
 
 -- l is link record number i of the table t, and its target stands in the text
 module _

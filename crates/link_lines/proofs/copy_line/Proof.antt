@@ -4,9 +4,9 @@ use mathlib.Core.Path.{ap}
 use lib.ListN.{length}
 use borrow.Author.Needs.{needs}
 use Rattle.columns.specs.LineHolds.{octetsOf}
-use Rattle.resolve_listing.proofs.AnswerLine.{whole-part, put-inside}
-use Rattle.resolve_listing.proofs.copy_line.Statement.{statement}
-use Rattle.resolve_listing.proofs.copy_line.Tie as tie
+use Rattle.link_lines.proofs.AnswerLine.{whole-part, put-inside}
+use Rattle.link_lines.proofs.copy_line.Statement.{statement}
+use Rattle.link_lines.proofs.copy_line.Tie as tie
 
 array-share-prefix-octets : tie.Need-array-share-prefix-octets
 array-share-prefix-octets c = search needs

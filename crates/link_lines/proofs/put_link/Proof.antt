@@ -1,8 +1,8 @@
 -- The link's answer tells its line.
 use borrow.Author.Needs.{needs}
-use Rattle.resolve_listing.proofs.AnswerLine.{resolved-held}
-use Rattle.resolve_listing.proofs.put_link.Statement.{statement}
-use Rattle.resolve_listing.proofs.put_link.Tie as tie
+use Rattle.link_lines.proofs.AnswerLine.{resolved-held}
+use Rattle.link_lines.proofs.put_link.Statement.{statement}
+use Rattle.link_lines.proofs.put_link.Tie as tie
 
 resolve-link-requires : tie.Need-resolve-link-requires
 resolve-link-requires c κs = search needs

@@ -7,10 +7,10 @@ use lib.ListN.{length, take, drop, length-append}
 use lib.Seq.{slice, take-length, length-take-le, length-sets}
 use Rattle.kinds.specs.Put.{Put}
 use Rattle.tables.specs.Table.{Table}
-use Rattle.resolve_listing.specs.Link.{LinkOn, target-refused, context-refused, both}
-use Rattle.resolve_listing.specs.Line.{Holds}
-use Rattle.resolve_listing.specs.declared.LinkResolved.{LinkResolved}
-use Rattle.resolve_listing.specs.declared.LinkResolved.the-variants.{Resolved}
+use Rattle.link_lines.specs.Link.{LinkOn, target-refused, context-refused, both}
+use Rattle.link_lines.specs.Line.{Holds}
+use Rattle.link_lines.specs.declared.LinkResolved.{LinkResolved}
+use Rattle.link_lines.specs.declared.LinkResolved.the-variants.{Resolved}
 
 -- the part of a text that is all of it
 pub whole-part : (s : List ℕ) {n : ℕ} → n ≡ length s → slice 0 n s ≡ s

@@ -7,9 +7,9 @@ use Rattle.kinds.specs.Put.{Put}
 use Rattle.answers.specs.Refusal.{refusalNumber}
 use Rattle.lines.specs.Line.{refusalLine}
 use Rattle.resolved_lines.specs.ResolvedLine.{resolvedLine}
-use Rattle.resolve_listing.specs.Link.{LinkOn}
-use Rattle.resolve_listing.specs.declared.LinkResolved.{LinkResolved}
-use Rattle.resolve_listing.specs.declared.LinkResolved.the-variants.{Resolved, Refused}
+use Rattle.link_lines.specs.Link.{LinkOn}
+use Rattle.link_lines.specs.declared.LinkResolved.{LinkResolved}
+use Rattle.link_lines.specs.declared.LinkResolved.the-variants.{Resolved, Refused}
 
 -- of an answer for link number i, with what both buffers hold
 abbrev pub answerLine : ℕ → LinkResolved → List ℕ → List ℕ → List ℕ

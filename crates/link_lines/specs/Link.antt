@@ -9,8 +9,8 @@ use Rattle.outcomes.specs.Resolve.{Resolve}
 use Rattle.outcomes.specs.ResolvedContext.{ResolvedContext}
 use Rattle.answers.specs.Refusal.{refusalNumber}
 use Rattle.answers.specs.declared.Refusal.{Refusal}
-use Rattle.resolve_listing.specs.declared.LinkResolved.{LinkResolved}
-use Rattle.resolve_listing.specs.declared.LinkResolved.the-variants.{Resolved, Refused}
+use Rattle.link_lines.specs.declared.LinkResolved.{LinkResolved}
+use Rattle.link_lines.specs.declared.LinkResolved.the-variants.{Resolved, Refused}
 
 -- the octets of link number i's target
 abbrev pub targetOf : Table → ℕ → List ℕ
