@@ -18,9 +18,18 @@ ASIDE = {
     "is-given": "is_given_lem", "start-of": "start_of_lem", "name-end": "name_end_lem", "joined-links": "joined_links_lem",
     "joined-params": "joined_params_lem", "is-dead": "is_dead_lem", "inOrder": "links_in_order", "left-of": "left_of_end",
     "in-target": "in_target_lem", "is-none": "is_none_lem", "is-reference": "is_reference_lem", "are-references": "are_references_lem",
-    "stands-in": "stands_in_lem", "is-long": "is_long_lem", "is-in": "is_in_lem", "tooLong": "too_long_number",
+    "stands-in": "stands_in_lem", "is-long": "is_long_lem", "is-in": "is_in_lem",
     "absolute-uri": "absolute_uri_lem", "cut-marked": "cut_marked_lem", "cut-scheme": "cut_scheme_lem", "same-awaited": "same_awaited_lem",
     "any-folded": "any_folded_lem", "refused-line": "refused_line_lem", "noStart": "no_start_number", "target-on": "target_on_lem",
+    "in-host": "in_host_lem", "ended-line": "ended_line_lem", "link-of": "link_of_lem", "more-digits": "more_digits_lem",
+    "same-rule": "same_rule_lem", "same-rules": "same_rules_lem", "same-pair": "same_pair_lem", "same-set": "same_set_lem",
+    "link-records": "records_of_links", "param-records": "records_of_params",
+    # the numbers that refusals answer: refusals have these names too
+    "tooLong": "too_long_number", "malformedHeader": "malformed_header_number", "noLinkRoom": "no_link_room_number",
+    "noParamRoom": "no_param_room_number", "badTable": "bad_table_number", "noRelation": "no_relation_number",
+    "noOutputRoom": "no_output_room_number", "noSuchLink": "no_such_link_number", "notFound": "not_found_number",
+    "unknownEdition": "unknown_edition_number", "badExtended": "bad_extended_number", "badBase": "bad_base_number",
+    "badReference": "bad_reference_number", "outOfRange": "out_of_range_number", "badCatalogue": "bad_catalogue_number",
 }
 # names in snake case already that would: in the file that declares one, and in those that import it from there
 LOCAL = {
@@ -30,6 +39,11 @@ LOCAL = {
     "crates/references/proofs/SetNumbers.antt": {"same_set": "same_set_lem"},
     "crates/tables/proofs/InGood.antt": {"agrees_at": "agrees_at_lem"},
     "crates/tables/proofs/Queries.antt": {"runs_of": "runs_of_lem"},
+    "crates/reference_scan/proofs/Hosting.antt": {"in_path": "in_path_lem"},
+    "crates/reference_scan/proofs/Triples.antt": {"in_path": "in_path_lem"},
+    "crates/sequences/proofs/ByLength.antt": {"of_two": "of_two_lem", "of_three": "of_three_lem"},
+    "crates/catalogues/proofs/WalkingOn.antt": {"steps_on": "steps_on_lem"},
+    "crates/rules/proofs/Search.antt": {"same_set": "same_set_lem"},
 }
 
 
@@ -128,7 +142,8 @@ def main():
             text = open(f).read()
             # an edit's text wasn't turned before: it has names, too, that the toolchain's script turned elsewhere
             also = {w: snake(w) for w in re.findall(WORD, text) if w not in names and is_old(w) and snake(w) in declared}
-            new = re.sub(WORD, lambda m: names.get(m.group(0), also.get(m.group(0), m.group(0))), text)
+            both = {**also, **names}
+            new = re.sub(r'"[^"\n]*"|' + WORD, lambda m: both.get(m.group(0), m.group(0)), text)
             # the name of a file isn't a word of it
             new = "\n".join(b if not a.startswith("file:") else a for a, b in zip(text.split("\n"), new.split("\n")))
         else:

@@ -1,6 +1,6 @@
 -- A feed's answer, and the state of a feeding.
 use Rattle.std.specs.Prelude.{ℕ, List}
-use Rattle.outcomes.specs.Number.{done, malformed_header}
+use Rattle.outcomes.specs.Number.{done, malformed_header_number}
 use Rattle.outcomes.specs.Feed.{FeedOut}
 use Rattle.outcomes.specs.Feeding as outcome
 use Rattle.answers.specs.Refusal.{refusal_number}
@@ -11,7 +11,7 @@ use Rattle.answers.specs.declared.feed_answer.FeedNumbers.{FeedNumbers}
 
 abbrev pub feed_numbers : FeedAnswer → FeedNumbers
 feed_numbers (Begun s) = record { number = done; place = 0; next = s }
-feed_numbers (Malformed p s) = record { number = malformed_header; place = p.0; next = s }
+feed_numbers (Malformed p s) = record { number = malformed_header_number; place = p.0; next = s }
 feed_numbers (Refused w s) = record { number = refusal_number w; place = 0; next = s }
 
 -- with what the gathering buffer holds afterwards

@@ -1,6 +1,6 @@
 -- Reading's answer.
 use Rattle.std.specs.Prelude.{ℕ, List}
-use Rattle.outcomes.specs.Number.{done, malformed_header}
+use Rattle.outcomes.specs.Number.{done, malformed_header_number}
 use Rattle.outcomes.specs.Read.{ReadOut}
 use Rattle.answers.specs.Refusal.{refusal_number}
 use Rattle.answers.specs.declared.read_answer.ReadAnswer.{ReadAnswer}
@@ -9,7 +9,7 @@ use Rattle.answers.specs.declared.read_answer.ReadNumbers.{ReadNumbers}
 
 abbrev pub read_numbers : ReadAnswer → ReadNumbers
 read_numbers (Done n) = record { number = done; place = 0; links = n.links; params = n.params }
-read_numbers (Malformed p) = record { number = malformed_header; place = p.0; links = 0; params = 0 }
+read_numbers (Malformed p) = record { number = malformed_header_number; place = p.0; links = 0; params = 0 }
 read_numbers (Refused w) = record { number = refusal_number w; place = 0; links = 0; params = 0 }
 
 -- with what both tables hold afterwards

@@ -21,16 +21,16 @@ use Rattle.answers.specs.declared.Refusal.TheVariants.{
 
 abbrev pub refusal_number : Refusal → ℕ
 refusal_number TooLong = number.too_long_number
-refusal_number NoLinkRoom = number.no_link_room
-refusal_number NoParamRoom = number.no_param_room
-refusal_number BadTable = number.bad_table
-refusal_number NoRelation = number.no_relation
-refusal_number NoOutputRoom = number.no_output_room
-refusal_number NoSuchLink = number.no_such_link
-refusal_number NotFound = number.not_found
-refusal_number UnknownEdition = number.unknown_edition
-refusal_number BadExtended = number.bad_extended
-refusal_number BadBase = number.bad_base
-refusal_number BadReference = number.bad_reference
-refusal_number OutOfRange = number.out_of_range
-refusal_number BadCatalogue = number.bad_catalogue
+refusal_number NoLinkRoom = number.no_link_room_number
+refusal_number NoParamRoom = number.no_param_room_number
+refusal_number BadTable = number.bad_table_number
+refusal_number NoRelation = number.no_relation_number
+refusal_number NoOutputRoom = number.no_output_room_number
+refusal_number NoSuchLink = number.no_such_link_number
+refusal_number NotFound = number.not_found_number
+refusal_number UnknownEdition = number.unknown_edition_number
+refusal_number BadExtended = number.bad_extended_number
+refusal_number BadBase = number.bad_base_number
+refusal_number BadReference = number.bad_reference_number
+refusal_number OutOfRange = number.out_of_range_number
+refusal_number BadCatalogue = number.bad_catalogue_number

@@ -17,7 +17,7 @@ use Rattle.tables.specs.Good.{Each, each_none, each_more}
 use Rattle.tables.specs.Meaning.{unescape, value_of}
 use Rattle.tables.specs.Relation.{runs, relations, has_relation}
 use Rattle.resolution.specs.Resolve.{resolved}
-use Rattle.outcomes.specs.Number.{limit, no_such_link, no_output_room, out_of_range, bad_catalogue}
+use Rattle.outcomes.specs.Number.{limit, no_such_link_number, no_output_room_number, out_of_range_number, bad_catalogue_number}
 use Rattle.catalogues.specs.Packs.{Pack, Room, Catalogue}
 use Rattle.catalogues.specs.Walks as steps
 use Rattle.catalogues.specs.Walks.{relation_of}
@@ -44,13 +44,13 @@ module _ (text : List ℕ) (room : Room) (start : ℕ) (n : ℤ) where
 
   abbrev over : (ps : List Pack) → nat_abs n ≤ step_limit → Catalogue room text ps → Dec (length ps ≤ start)
       → Dec (limit ≤ room.octets) → Answer
-  over ps h c (yes l) r = (refused no_such_link, no_such_pack h c l)
-  over ps h c (no l) (no r) = (refused no_output_room, no_room h c (omega arith) (omega arith))
+  over ps h c (yes l) r = (refused no_such_link_number, no_such_pack h c l)
+  over ps h c (no l) (no r) = (refused no_output_room_number, no_room h c (omega arith) (omega arith))
   over ps h c (no l) (yes r) = (walked (steps.walk ps (relation_of n) (nat_abs n) start), outcome.walks h c (omega arith) r)
 
   abbrev within : Dec (nat_abs n ≤ step_limit) → Dec ((ps : List Pack) × Catalogue room text ps) → Answer
-  within (no h) c = (refused out_of_range, out_of_range (omega arith))
-  within (yes h) (no c) = (refused bad_catalogue, bad_catalogue h (λ ps d. c (ps, d)))
+  within (no h) c = (refused out_of_range_number, out_of_range (omega arith))
+  within (yes h) (no c) = (refused bad_catalogue_number, bad_catalogue h (λ ps d. c (ps, d)))
   within (yes h) (yes c) = over c.0 h c.1 (dec_le (length c.0) start) (dec_le limit room.octets)
 
   answer : Answer

@@ -5,7 +5,7 @@ use mathlib.Core.Logic.{◌⊎◌, inl, inr}
 use mathlib.Core.List.{List}
 use lib.ListN.{length}
 use lib.IntN.{ℤ, nat_abs}
-use Rattle.outcomes.specs.Number.{limit, no_such_link, no_output_room, out_of_range, bad_catalogue}
+use Rattle.outcomes.specs.Number.{limit, no_such_link_number, no_output_room_number, out_of_range_number, bad_catalogue_number}
 use Rattle.outcomes.specs.Laws.{Settled}
 use Rattle.outcomes.proofs.Cases.{Branch, this, that, Order, only, branch, order, settled}
 use Rattle.catalogues.specs.Packs.{Pack, Room, Catalogue}
@@ -41,12 +41,12 @@ module _ (text : List ℕ) (room : Room) (start : ℕ) (n : ℤ) where
   -- what is answered over a catalogue of the packs ps
   abbrev Over : List Pack → WalkOut → Type 0
   Over ps =
-      Order (length ps) start (λ q. q ≡ refused no_such_link)
-      (Order limit room.octets (λ q. q ≡ walked (walk ps (relation_of n) (nat_abs n) start)) (λ q. q ≡ refused no_output_room))
+      Order (length ps) start (λ q. q ≡ refused no_such_link_number)
+      (Order limit room.octets (λ q. q ≡ walked (walk ps (relation_of n) (nat_abs n) start)) (λ q. q ≡ refused no_output_room_number))
 
   abbrev Cases : WalkOut → Type 0
   Cases =
-      Order (nat_abs n) step_limit (Branch Some (λ c. Over c.0) None (λ q. q ≡ refused bad_catalogue)) (λ q. q ≡ refused out_of_range)
+      Order (nat_abs n) step_limit (Branch Some (λ c. Over c.0) None (λ q. q ≡ refused bad_catalogue_number)) (λ q. q ≡ refused out_of_range_number)
 
   cases : (q : WalkOut) → Walk text room start n q → Cases q
   cases _ (out_of_range l) = that l refl

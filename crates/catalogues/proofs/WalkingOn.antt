@@ -38,14 +38,14 @@ module _ (ps : List Pack) (i : ℕ) where
   as_many : (q : List ℕ) {j k : ℕ} → j ≡ k → walk ps q j i ≡ walk ps q k i
   as_many q e = ap (λ (k : ℕ). walk ps q k i) e
 
-  steps_on : {m n : ℤ} → OneSign m n → (steps ps m i).end ≡ arrived
+  steps_on_lem : {m n : ℤ} → OneSign m n → (steps ps m i).end ≡ arrived
       → steps ps (m +ℤ n) i ≡ after (nat_abs m) (steps ps n (steps ps m i).pack)
   unfolding walk
-  steps_on (forwards m n) a = walk_on ps (relation_of (pos m)) m n i a
-  steps_on (backwards m n) a =
+  steps_on_lem (forwards m n) a = walk_on ps (relation_of (pos m)) m n i a
+  steps_on_lem (backwards m n) a =
       as_many (relation_of (negsuc m)) (sizes (backwards m n)) ∙ walk_on ps (relation_of (negsuc m)) (suc m) (suc n) i a
-  steps_on (still_first n) a = ap (λ (z : ℤ). steps ps z i) (+ℤ_idl (negsuc n)) ∙ none_after (steps ps (negsuc n) i)
-  steps_on (still_last m) a =
+  steps_on_lem (still_first n) a = ap (λ (z : ℤ). steps ps z i) (+ℤ_idl (negsuc n)) ∙ none_after (steps ps (negsuc n) i)
+  steps_on_lem (still_last m) a =
       ap (λ (z : ℤ). steps ps z i) (+ℤ_idr (negsuc m)) ∙ as_many (relation_of (negsuc m)) (sym (add-zero (suc m)))
       ∙ walk_on ps (relation_of (negsuc m)) (suc m) zero i a
 
@@ -66,6 +66,6 @@ onwards text room start m n s near first second whole a b c w =
     in
     let all : whole ≡ walked (steps d.packs (m +ℤ n) start) = same_walk w (walks near d.catalogue d.there d.roomy) in
     let on : steps d.packs (m +ℤ n) start ≡ after (nat_abs m) (steps d.packs n first.pack) =
-    steps_on d.packs start s arrives ∙ ap (λ (k : ℕ). after (nat_abs m) (steps d.packs n k)) (sym there)
+    steps_on_lem d.packs start s arrives ∙ ap (λ (k : ℕ). after (nat_abs m) (steps d.packs n k)) (sym there)
     in
     behind (nat_abs m) (steps d.packs n first.pack) whole second (all ∙ ap walked on) more

@@ -7,7 +7,7 @@ use Rattle.octets.specs.Text.{octets}
 use Rattle.grammar.specs.Link.{Link}
 use Rattle.tables.specs.Good.{Each}
 use Rattle.resolution.specs.Resolve.{resolved}
-use Rattle.outcomes.specs.Number.{done, no_such_link, out_of_range, bad_catalogue}
+use Rattle.outcomes.specs.Number.{done, no_such_link_number, out_of_range_number, bad_catalogue_number}
 use Rattle.catalogues.specs.Packs.{Pack, lines_of, Room, RightPack, Distinct, Catalogue}
 use Rattle.catalogues.specs.Steps.{End, arrived, no_link, no_target, no_pack, stop, along}
 use Rattle.catalogues.specs.Outcome.{WalkOut, refused, end_number, Walk}
@@ -54,22 +54,22 @@ walks =
 
 abbrev pub refusals : List Example
 refusals =
-    refuses chain 3 (pos 0) no_such_link
-    ∷ refuses "" 0 (pos 0) no_such_link
-    ∷ refuses "" 0 (pos 65) out_of_range
-    ∷ refuses chain 0 (negsuc 64) out_of_range
+    refuses chain 3 (pos 0) no_such_link_number
+    ∷ refuses "" 0 (pos 0) no_such_link_number
+    ∷ refuses "" 0 (pos 65) out_of_range_number
+    ∷ refuses chain 0 (negsuc 64) out_of_range_number
     -- no LF; no tab; an empty line; the same URI twice; a URI that isn't absolute, or has a fragment
-    ∷ refuses "x:/1\t" 0 (pos 0) bad_catalogue
-    ∷ refuses "x:/1\n" 0 (pos 0) bad_catalogue
-    ∷ refuses "x:/1\t\n\n" 0 (pos 0) bad_catalogue
-    ∷ refuses "x:/1\t\nx:/2\t\nx:/1\t\n" 0 (pos 0) bad_catalogue
-    ∷ refuses "1\t\n" 0 (pos 0) bad_catalogue
-    ∷ refuses "x:/1#f\t\n" 0 (pos 0) bad_catalogue
+    ∷ refuses "x:/1\t" 0 (pos 0) bad_catalogue_number
+    ∷ refuses "x:/1\n" 0 (pos 0) bad_catalogue_number
+    ∷ refuses "x:/1\t\n\n" 0 (pos 0) bad_catalogue_number
+    ∷ refuses "x:/1\t\nx:/2\t\nx:/1\t\n" 0 (pos 0) bad_catalogue_number
+    ∷ refuses "1\t\n" 0 (pos 0) bad_catalogue_number
+    ∷ refuses "x:/1#f\t\n" 0 (pos 0) bad_catalogue_number
     -- a Link value that is malformed, or only RFC 5988's edition reads, or has more links or parameters than there is room for
-    ∷ refuses "x:/1\t<2>\r\n" 0 (pos 0) bad_catalogue
-    ∷ refuses "x:/1\t<2>;a=/\n" 0 (pos 0) bad_catalogue
-    ∷ refuses "x:/1\t<>,<>,<>\n" 0 (pos 0) bad_catalogue
-    ∷ refuses "x:/1\t<>;a;b;c;d;e\n" 0 (pos 0) bad_catalogue
+    ∷ refuses "x:/1\t<2>\r\n" 0 (pos 0) bad_catalogue_number
+    ∷ refuses "x:/1\t<2>;a=/\n" 0 (pos 0) bad_catalogue_number
+    ∷ refuses "x:/1\t<>,<>,<>\n" 0 (pos 0) bad_catalogue_number
+    ∷ refuses "x:/1\t<>;a;b;c;d;e\n" 0 (pos 0) bad_catalogue_number
     ∷ []
 
 -- two links, four parameters, and the octets for resolving

@@ -1,6 +1,6 @@
 -- What the walk's entry answers. The numbers come in the order 14, 15, 8, 7.
 use Rattle.std.specs.Prelude.{ℕ, ◌≤◌, ◌<◌, ◌≡◌, List, length, ℤ, nat_abs}
-use Rattle.outcomes.specs.Number.{limit, done, no_such_link, no_output_room, out_of_range, bad_catalogue}
+use Rattle.outcomes.specs.Number.{limit, done, no_such_link_number, no_output_room_number, out_of_range_number, bad_catalogue_number}
 use Rattle.catalogues.specs.Packs.{Pack, Room, Catalogue}
 use Rattle.catalogues.specs.Steps.{End, arrived, no_link, no_target, no_pack}
 use Rattle.catalogues.specs.Walks.{Ended, walk, relation_of}
@@ -32,11 +32,11 @@ walked o = record { number = done; end = end_number o.end; pack = o.pack; steps 
 module _ (text : List ℕ) (room : Room) (start : ℕ) (n : ℤ) where
   pub data Walk : WalkOut → Type 0 where
     -- whatever the text is
-    out_of_range : step_limit < nat_abs n → Walk (refused out_of_range)
-    bad_catalogue : nat_abs n ≤ step_limit → ((ps : List Pack) → Catalogue room text ps → ⊥) → Walk (refused bad_catalogue)
-    no_such_pack : {ps : List Pack} → nat_abs n ≤ step_limit → Catalogue room text ps → length ps ≤ start → Walk (refused no_such_link)
+    out_of_range : step_limit < nat_abs n → Walk (refused out_of_range_number)
+    bad_catalogue : nat_abs n ≤ step_limit → ((ps : List Pack) → Catalogue room text ps → ⊥) → Walk (refused bad_catalogue_number)
+    no_such_pack : {ps : List Pack} → nat_abs n ≤ step_limit → Catalogue room text ps → length ps ≤ start → Walk (refused no_such_link_number)
     no_room : {ps : List Pack} → nat_abs n ≤ step_limit → Catalogue room text ps → start < length ps → room.octets < limit
-        → Walk (refused no_output_room)
+        → Walk (refused no_output_room_number)
     walks : {ps : List Pack} → nat_abs n ≤ step_limit → Catalogue room text ps → start < length ps → limit ≤ room.octets
         → Walk (walked (walk ps (relation_of n) (nat_abs n) start))
 

@@ -1,4 +1,6 @@
 // A line by value: a label and columns of numbers, parted by HTAB and ended by LF. Nothing is written out here.
+#![tactic(auto)]
+
 ghost use Rattle.std.specs.Prelude.{◌+◌, ◌*◌, ◌≤◌, ◌∷◌, length};
 ghost use Rattle.columns.specs.Decimal.{decimal, DecimalHolds};
 ghost use Rattle.columns.specs.LineHolds.{Grown, LineHolds};

@@ -1,4 +1,6 @@
 // Extended values: laws of their definition, held by the gate. Each function promises one statement of specs/ and does nothing.
+#![tactic(auto)]
+
 ghost use Rattle.extended.specs.Laws.{DecodedExact, OneText};
 ghost use Rattle.extended.specs.Rows.{RowsHold};
 

@@ -12,7 +12,7 @@ use Rattle.octets.specs.Editions.{number_of, further}
 use Rattle.octets.specs.declared.editions.Edition.{Edition}
 use Rattle.grammar.specs.Grammar.{Extra}
 use Rattle.grammar.specs.Place.{Begun, Place}
-use Rattle.outcomes.specs.Number.{limit, done, too_long_number, malformed_header, no_output_room}
+use Rattle.outcomes.specs.Number.{limit, done, too_long_number, malformed_header_number, no_output_room_number}
 use Rattle.outcomes.specs.Feed as fed
 use Rattle.outcomes.specs.Feed.{counted, unstored, FeedIn}
 use Rattle.outcomes.specs.Feeding as any
@@ -142,7 +142,7 @@ stuck_of {ed} {octets} {buffer} st {t} {k} f e s n q =
     (sym f) (sym e) (stuck s n q)
 
 module _ (ed : Edition) {st : Feeding} {part buffer : List ℕ} where
-  pub too_small : length buffer < limit → FeedsIn st part buffer ed (unstored buffer no_output_room 0) st
+  pub too_small : length buffer < limit → FeedsIn st part buffer ed (unstored buffer no_output_room_number 0) st
   too_small l =
       record {
         answers = λ octets h. fed.small_buffer l;
@@ -163,11 +163,11 @@ module _ (ed : Edition) {st : Feeding} {part buffer : List ℕ} where
     module _ (short : st.total + length part ≤ limit) where
       -- octets of which something is wrong, with the place k
       faulty : {k : ℕ}
-          → AnyFeed st part buffer (unstored buffer malformed_header k)
+          → AnyFeed st part buffer (unstored buffer malformed_header_number k)
           (moved_to st (st.total + length part) k)
           → ((octets : List ℕ) → Holds ed octets buffer st
           → (Begun (further ed) (octets ++ part) → ⊥) × Place (further ed) (octets ++ part) k)
-          → FeedsIn st part buffer ed (unstored buffer malformed_header k)
+          → FeedsIn st part buffer ed (unstored buffer malformed_header_number k)
           (moved_to st (st.total + length part) k)
       faulty {k} a why =
           record {
@@ -187,7 +187,7 @@ module _ (ed : Edition) {st : Feeding} {part buffer : List ℕ} where
 
       -- a fault is remembered
       pub still_faulty : st.place < st.total
-          → FeedsIn st part buffer ed (unstored buffer malformed_header st.place)
+          → FeedsIn st part buffer ed (unstored buffer malformed_header_number st.place)
           (moved_to st (st.total + length part) st.place)
       still_faulty l =
           faulty (any.remembered large short l)
@@ -206,7 +206,7 @@ module _ (ed : Edition) (st : Feeding) {next : Feeding} (part : List ℕ) {buffe
   pub counted_over : limit < r → FeedsIn st part buffer ed (unstored buffer too_long_number 0) next
   counted_over l = rw (total_as st {m = suc limit} n (omega arith)) (too_much ed large (omega arith))
 
-  pub counted_faulty : r ≤ limit → st.place < st.total → FeedsIn st part buffer ed (unstored buffer malformed_header st.place) next
+  pub counted_faulty : r ≤ limit → st.place < st.total → FeedsIn st part buffer ed (unstored buffer malformed_header_number st.place) next
   counted_faulty h l = rw (total_as st {m = st.total + length part} n (omega arith)) (still_faulty ed large (omega arith) l)
 
 module _ (ed : Edition) {st : Feeding} {part buffer : List ℕ} (t : Takes st part buffer) where
@@ -229,7 +229,7 @@ module _ (ed : Edition) {st : Feeding} {part buffer : List ℕ} (t : Takes st pa
 
   -- the part has a fault
   pub gets_stuck : {k : ℕ} → Halts (further ed) part st.total (normal (held_spot st)) 0 k
-      → FeedsIn st part buffer ed (unstored buffer malformed_header (st.total + k)) (moved_to st (st.total + length part) (st.total + k))
+      → FeedsIn st part buffer ed (unstored buffer malformed_header_number (st.total + k)) (moved_to st (st.total + length part) (st.total + k))
   unfolding start
   gets_stuck {k} x =
       faulty ed t.large t.short (any.faulty t.large t.short t.none_stuck x.inside)
@@ -246,7 +246,7 @@ module _ (ed : Edition) {st : Feeding} {part buffer : List ℕ} (t : Takes st pa
 
   -- it closes a target that is no reference
   pub gets_refused : {k : ℕ} → Refuses (further ed) part st.total (normal (held_spot st)) 0 k
-      → FeedsIn st part buffer ed (unstored buffer malformed_header k) (moved_to st (st.total + length part) k)
+      → FeedsIn st part buffer ed (unstored buffer malformed_header_number k) (moved_to st (st.total + length part) k)
   unfolding start
   gets_refused {k} x =
       faulty ed t.large t.short (where_it_began (refused_since (get_or part x.place 0) x.leads x.refused))
@@ -264,14 +264,14 @@ module _ (ed : Edition) {st : Feeding} {part buffer : List ℕ} (t : Takes st pa
           ⊎ ((j : ℕ)
           × ((onward (further ed) x.last (st.total + suc x.place) (get_or part x.place 0)).target.0 ≡ st.total + j)
           × (j ≤ x.place))
-          → AnyFeed st part buffer (unstored buffer malformed_header k) (moved_to st (st.total + length part) k)
+          → AnyFeed st part buffer (unstored buffer malformed_header_number k) (moved_to st (st.total + length part) k)
       where_it_began (inl (e, o)) =
           let w : start_in st ≡ k = sym (normal_target (held_spot st) o) ∙ sym e ∙ x.start in
-          subst (λ (n : ℕ). AnyFeed st part buffer (unstored buffer malformed_header n) (moved_to st (st.total + length part) n)) w
+          subst (λ (n : ℕ). AnyFeed st part buffer (unstored buffer malformed_header_number n) (moved_to st (st.total + length part) n)) w
           (any.unfit t.large t.short t.none_stuck (normal_phase (held_spot st) o) (omega (arith, x.inside)))
       where_it_began (inr (j, e, m)) =
           let w : st.total + j ≡ k = sym e ∙ x.start in
-          subst (λ (n : ℕ). AnyFeed st part buffer (unstored buffer malformed_header n) (moved_to st (st.total + length part) n)) w
+          subst (λ (n : ℕ). AnyFeed st part buffer (unstored buffer malformed_header_number n) (moved_to st (st.total + length part) n)) w
           (any.faulty t.large t.short t.none_stuck (omega (arith, x.inside)))
 
   -- the part leads on, and is stored

@@ -7,7 +7,7 @@ use lib.ListN.{length, take}
 use Rattle.octets.specs.declared.editions.Edition.{Edition}
 use Rattle.grammar.specs.Grammar.{Extra, Admissible, Field}
 use Rattle.grammar.specs.Place.{Begun, Malformed}
-use Rattle.outcomes.specs.Number.{limit, too_long_number, malformed_header, no_output_room}
+use Rattle.outcomes.specs.Number.{limit, too_long_number, malformed_header_number, no_output_room_number}
 use Rattle.outcomes.specs.Read as reading
 use Rattle.outcomes.specs.Read.{ReadOut, refused, ReadIn}
 use Rattle.outcomes.specs.Feed.{no_buffer, as_read}
@@ -27,7 +27,7 @@ begins_none {extra} apart u n R f refs =
     })
 
 module _ (ed : Edition) {st : Feeding} {buffer L P : List ℕ} where
-  pub too_small : length buffer < limit → FinishesIn st buffer L P ed (refused L P no_output_room 0)
+  pub too_small : length buffer < limit → FinishesIn st buffer L P ed (refused L P no_output_room_number 0)
   too_small l = record { answers = λ octets h. no_buffer l; any = any.no_buffer l }
 
   module _ (large : limit ≤ length buffer) where
@@ -41,12 +41,12 @@ module _ (ed : Edition) {st : Feeding} {buffer L P : List ℕ} where
         long l (begun s b t) = absurd (omega arith)
 
     module _ (short : st.total ≤ limit) where
-      pub faulty : st.place < st.total → FinishesIn st buffer L P ed (refused L P malformed_header st.place)
+      pub faulty : st.place < st.total → FinishesIn st buffer L P ed (refused L P malformed_header_number st.place)
       faulty l =
           record { answers = λ octets h. as_read large (told short l h); any = any.remembered large short l }
         where
           told : {octets : List ℕ} {su : Feeding} → su.total ≤ limit → su.place < su.total → Holds ed octets buffer su
-              → ReadIn ed octets L P (refused L P malformed_header su.place)
+              → ReadIn ed octets L P (refused L P malformed_header_number su.place)
           told s l (over h) = absurd (omega arith)
           told {octets} s l (stuck h n p) =
               reading.not_derived h (record { malformed = begins_none (apart ed) octets n; place = p })

@@ -1,4 +1,6 @@
 // Comparison of texts with A to Z read as a to z (definitions: the crate `octets`).
+#![tactic(auto)]
+
 ghost use Rattle.std.specs.Prelude.{cond, ◌≡◌, eqb};
 ghost use Rattle.octets.specs.Fold.{fold, same_folded, pairs_compared};
 

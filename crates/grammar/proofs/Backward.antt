@@ -128,6 +128,7 @@ module _ (extra : Extra) (s : List ℕ) where
           r_after (record { stop = _; params = and_one run_end (stands 59 h e) bl p a.params; ends = a.ends })
       go false _ false _ true e (r_gap g) =
           r_after (record { stop = _; params = no_more; ends = at_comma run_end (stands 44 h e) g })
+      go false _ false _ false e x12 = elim x12 [ ]
 
   name_bwd : (o : Open) (n e : ℕ) {i : ℕ} {R : List Link} → i < length s → Rest extra s (name_end o n e (get_or s i 0)) (suc i) R
       → Rest extra s (named o n e) i R
@@ -193,6 +194,7 @@ module _ (extra : Extra) (s : List ℕ) where
             complete = g.complete;
           })
       go false _ false _ true e (r_target t k a) = r_gap (ended (link (stands 60 h e) t k a.params) a.ends)
+      go false _ false _ false e x12 = elim x12 [ ]
 
   target_bwd : (ls : List Link) (a : ℕ) {i : ℕ} {R : List Link} → i < length s
       → Rest extra s (step extra (target ls a) i (get_or s i 0)) (suc i) R → Rest extra s (target ls a) i R
@@ -207,6 +209,7 @@ module _ (extra : Extra) (s : List ℕ) where
       go true e y _ z _ (r_target t k r) = r_target (octet (found h e) t) k r
       go false _ true e z _ (r_percent x y t k r) = r_target (triple (stands 37 h e) x y t) k r
       go false _ false _ true e (r_after r) = r_target target_end (stands 62 h e) r
+      go false _ false _ false e x12 = elim x12 [ ]
 
   semi_bwd : (o : Open) {i : ℕ} {R : List Link} → i < length s
       → Rest extra s (step extra (semi o) i (get_or s i 0)) (suc i) R → Rest extra s (semi o) i R
@@ -224,6 +227,7 @@ module _ (extra : Extra) (s : List ℕ) where
           → Rest extra s (cond x (semi o) (cond y (name o i) dead)) (suc i) R → Rest extra s (semi o) i R
       go true e y _ (r_semi bl p a) = r_semi (run_more (found h e) bl) p a
       go false _ true e (r_name r nr a) = r_semi run_end (begun (found h e) r nr) a
+      go false _ false e x7 = elim x7 [ ]
 
   equals_bwd : (o : Open) (n e : ℕ) {i : ℕ} {R : List Link} → i < length s
       → Rest extra s (step extra (equals o n e) i (get_or s i 0)) (suc i) R → Rest extra s (equals o n e) i R
@@ -246,6 +250,7 @@ module _ (extra : Extra) (s : List ℕ) where
       go false _ true q z _ w _ (r_quote t k a) = r_equals run_end (quoted (stands 34 h q) t k) a
       go false _ false _ true q w _ (r_bare t a) = r_equals run_end (begun (found h q) t) a
       go false _ false _ false _ true q (r_wide t a) = r_equals run_end (wider (from_token run_end (found h q) t)) a
+      go false _ false _ false _ false q x18 = elim x18 [ ]
 
   bare_bwd : (o : Open) (n e v : ℕ) {i : ℕ} {R : List Link} → i < length s
       → Rest extra s (step extra (bare o n e v) i (get_or s i 0)) (suc i) R → Rest extra s (bare o n e v) i R
@@ -298,14 +303,17 @@ module _ (extra : Extra) (s : List ℕ) where
       go true q y _ z _ (r_after a) = r_quote inside_end (stands 34 h q) a
       go false _ true q z _ (r_escape x t k a) = r_quote (pair (stands 92 h q) x t) k a
       go false _ false _ true q (r_quote t k a) = r_quote (plain (found h q) t) k a
+      go false _ false _ false q x12 = elim x12 [ ]
 
   percent_bwd : (ls : List Link) (a : ℕ) {i : ℕ} {R : List Link} (x : Bool) → i < length s → is_hex (get_or s i 0) ≡ x
       → Rest extra s (cond x (hex ls a) dead) (suc i) R → Rest extra s (percent ls a) i R
   percent_bwd ls a true h q (r_hex y t k r) = r_percent (found h q) y t k r
+  percent_bwd ls a {i = i} {R = R} false h q x4 = elim x4 [ ]
 
   hex_bwd : (ls : List Link) (a : ℕ) {i : ℕ} {R : List Link} (x : Bool) → i < length s → is_hex (get_or s i 0) ≡ x
       → Rest extra s (cond x (target ls a) dead) (suc i) R → Rest extra s (hex ls a) i R
   hex_bwd ls a true h q (r_target t k r) = r_hex (found h q) t k r
+  hex_bwd ls a {i = i} {R = R} false h q x4 = elim x4 [ ]
 
   name_more : (o : Open) (n : ℕ) {i : ℕ} {R : List Link} (x : Bool) → i < length s → is_token (get_or s i 0) ≡ x
       → Rest extra s (cond x (name o n) (name_end o n i (get_or s i 0))) (suc i) R → Rest extra s (name o n) i R
@@ -318,6 +326,7 @@ module _ (extra : Extra) (s : List ℕ) where
   escape_bwd : (o : Open) (n e v : ℕ) {i : ℕ} {R : List Link} (x : Bool) → i < length s → is_escapable (get_or s i 0) ≡ x
       → Rest extra s (cond x (quote o n e v) dead) (suc i) R → Rest extra s (escape o n e v) i R
   escape_bwd o n e v true h q (r_quote t k a) = r_escape (found h q) t k a
+  escape_bwd o n e v {i = i} {R = R} false h q x4 = elim x4 [ ]
 
   pub backward : (st : State) {i : ℕ} {R : List Link} → i < length s
       → Rest extra s (step extra st i (get_or s i 0)) (suc i) R → Rest extra s st i R
@@ -334,3 +343,4 @@ module _ (extra : Extra) (s : List ℕ) where
   backward (wide o n e v) h r = wide_bwd o n e v h r
   backward (quote o n e v) h r = quote_bwd o n e v h r
   backward (escape o n e v) h r = escape_bwd o n e v _ h refl r
+  backward dead {i = i} {R = R} h r = elim r [ ]

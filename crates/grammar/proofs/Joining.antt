@@ -63,7 +63,7 @@ module _ (u s v : List ℕ) where
 
   -- ---- records of kept parameters
 
-  names_kept : {ps : List Param} (n : ℕ) (earlier : List (List ℕ)) → NamesIn n ps → NamesIn n (keep_after s earlier ps)
+  names_kept : (n : ℕ) {ps : List Param} (earlier : List (List ℕ)) → NamesIn n ps → NamesIn n (keep_after s earlier ps)
   names_kept n earlier no_names = no_names
   names_kept n earlier (name_in {p = p} {ps = ps} h r) =
       go (is_once (name_of s p) && among earlier (name_of s p)) (names_kept n (name_of s p ∷ earlier) r)
@@ -243,8 +243,8 @@ joins extra apart hs =
             references = references_all extra apart hs (join (pads extra apart hs)) [] 0 refl refl;
             kept = sym (kept_all extra apart hs (join (pads extra apart hs)) [] 0 refl refl);
           };
-      link_records = joined_links_lem extra apart 0 0 hs;
-      param_records = joined_params_lem extra apart hs (join (pads extra apart hs)) [] 0 refl refl;
+      records_of_links = joined_links_lem extra apart 0 0 hs;
+      records_of_params = joined_params_lem extra apart hs (join (pads extra apart hs)) [] 0 refl refl;
       link_count = joined_link_count extra apart 0 hs;
       param_count = joined_param_count extra apart 0 hs;
     }

@@ -74,7 +74,7 @@ module _ (extra : Extra) where
   pub record JoinReads (hs : List Readable) : Type 0 where
     pub links : List Link
     pub reads : Reading extra (join (map (λ (a : Readable). a.pad) hs)) links
-    pub link_records : link_records 0 links ≡ joined_links 0 0 hs
-    pub param_records : param_records (join (map (λ (a : Readable). a.pad) hs)) links ≡ joined_params 0 hs
+    pub records_of_links : link_records 0 links ≡ joined_links 0 0 hs
+    pub records_of_params : param_records (join (map (λ (a : Readable). a.pad) hs)) links ≡ joined_params 0 hs
     pub link_count : length links ≡ link_sum hs
     pub param_count : count_params links ≡ param_sum hs

@@ -1,4 +1,6 @@
 // The laws of the grammar, held by the gate: each function promises one statement of specs/Laws.antt and does nothing.
+#![tactic(auto)]
+
 ghost use Rattle.grammar.specs.Laws.{EditionsApart, ReadByAll};
 ghost use Rattle.grammar.specs.Laws.{MachineExact, OneReading, Decided, OnePlace, Codes, Keeps, CutShort, OctetsOnly, Joins, JoinsMalformed};
 

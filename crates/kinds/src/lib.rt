@@ -1,5 +1,7 @@
 // Octet places, link numbers, parameter numbers and pack numbers: kinds that can't be exchanged by mistake, and how each moves on. A place
 // in an output buffer is a kind of its own, and both counts of a table go together.
+#![tactic(auto)]
+
 ghost use Rattle.std.specs.Prelude.{◌≡◌, ◌+◌, ◌-◌, ◌^◌, ◌≤◌, ◌<◌};
 
 // A place of an octet in the text, counted from 0.

@@ -25,7 +25,7 @@ use Rattle.tables.proofs.Filled.{link_records_length, param_records_length}
 use Rattle.tables.proofs.FromReading.{read_good}
 use Rattle.tables.proofs.GoodAlike.{good_alike}
 use Rattle.tables.proofs.ReadBack.{read_back, written_tells}
-use Rattle.outcomes.specs.Number.{limit, done, malformed_header, bad_table}
+use Rattle.outcomes.specs.Number.{limit, done, malformed_header_number, bad_table_number}
 use Rattle.outcomes.specs.InEdition.{known}
 use Rattle.outcomes.specs.Usable.{TableIn, OverTable, refused, usable, long_text, not_good}
 use Rattle.outcomes.specs.Read
@@ -76,9 +76,9 @@ module _ (ed : Edition) where
   -- it answered 2: the header is malformed, at the place answered
   record Fails (h L P : List ℕ) (out : ReadOut) : Type 0 where
     at : MalformedAt (further ed) h out.place
-    is : out ≡ Read.refused L P malformed_header out.place
+    is : out ≡ Read.refused L P malformed_header_number out.place
 
-  read_malformed : {h L P : List ℕ} {out : ReadOut} → ReadIn ed h L P out → out.number ≡ malformed_header → Fails h L P out
+  read_malformed : {h L P : List ℕ} {out : ReadOut} → ReadIn ed h L P out → out.number ≡ malformed_header_number → Fails h L P out
   read_malformed (too_long l) e = absurd (omega arith)
   read_malformed (not_derived s m) e = record { at = m; is = refl }
   read_malformed (no_link_room s r l) e = absurd (omega arith)
@@ -111,8 +111,8 @@ module _ (ed : Edition) where
   record Agrees (a : Accepted ed) (K : List Link) : Type 0 where
     link_count : a.alone.out.links ≡ length K
     param_count : a.alone.out.params ≡ count_params K
-    link_records : link_records_of a ≡ link_records 0 K
-    param_records : param_records_of a ≡ param_records a.alone.pad.header K
+    records_of_links : link_records_of a ≡ link_records 0 K
+    records_of_params : param_records_of a ≡ param_records a.alone.pad.header K
 
   agrees : (a : Accepted ed) → Agrees a (readable a).reading
   unfolding readable
@@ -122,10 +122,10 @@ module _ (ed : Edition) where
       record {
         link_count = ap (λ (o : ReadOut). o.links) f.is;
         param_count = ap (λ (o : ReadOut). o.params) f.is;
-        link_records =
+        records_of_links =
             ap (λ (o : ReadOut). take (link_width * o.links) o.link_slots) f.is
             ∙ take_at (link_records 0 K) _ (link_width * length K) (link_records_length 0 K);
-        param_records =
+        records_of_params =
             ap (λ (o : ReadOut). take (param_width * o.params) o.param_slots) f.is
             ∙ take_at (param_records a.alone.pad.header K) _ (param_width * count_params K)
             (param_records_length a.alone.pad.header K);
@@ -149,7 +149,7 @@ module _ (ed : Edition) where
   unfolding readable
   same_links k m [] = refl
   same_links k m (a ∷ hs) =
-      ap₂ (λ (x y : List ℕ). x ++ y) (ap (raise_links (k + length a.alone.pad.left) m) (sym (agrees a).link_records))
+      ap₂ (λ (x y : List ℕ). x ++ y) (ap (raise_links (k + length a.alone.pad.left) m) (sym (agrees a).records_of_links))
       (ap (λ (n : ℕ). Join.joined_links (further ed) (k + length (padded a.alone.pad) + 1) (m + n) (map readable hs))
       (sym (agrees a).param_count)
       ∙ same_links (k + length (padded a.alone.pad) + 1) (m + a.alone.out.params) hs)
@@ -158,7 +158,7 @@ module _ (ed : Edition) where
   unfolding readable
   same_params k [] = refl
   same_params k (a ∷ hs) =
-      ap₂ (λ (x y : List ℕ). x ++ y) (ap (raise_params (k + length a.alone.pad.left)) (sym (agrees a).param_records))
+      ap₂ (λ (x y : List ℕ). x ++ y) (ap (raise_params (k + length a.alone.pad.left)) (sym (agrees a).records_of_params))
       (same_params (k + length (padded a.alone.pad) + 1) hs)
 
   joined : (hs : List (Accepted ed)) (L P : List ℕ) → length (join_of hs) ≤ limit → link_sum hs ≤ link_room_of L
@@ -182,9 +182,9 @@ module _ (ed : Edition) where
       rw (
         n,
         m,
-        sym (j.link_records ∙ same_links 0 0 hs),
+        sym (j.records_of_links ∙ same_links 0 0 hs),
         sym
-            (ap (λ (ps : List Padded). param_records (join ps) j.links) (sym (same_pads hs)) ∙ j.param_records ∙ same_params 0 hs),
+            (ap (λ (ps : List Padded). param_records (join ps) j.links) (sym (same_pads hs)) ∙ j.records_of_params ∙ same_params 0 hs),
       )
       (one_answer (reads short reading (omega arith) (omega arith)) r a)
 
@@ -304,7 +304,7 @@ written_apart ed d t u w x e =
 -- ---- the editions
 
 -- what one answers of a header that it doesn't find malformed
-alike : {h L P : List ℕ} {o : ReadOut} → ReadIn Rfc8288 h L P o → (o.number ≡ malformed_header → ⊥) → ReadIn Rfc5988 h L P o
+alike : {h L P : List ℕ} {o : ReadOut} → ReadIn Rfc8288 h L P o → (o.number ≡ malformed_header_number → ⊥) → ReadIn Rfc5988 h L P o
 alike (too_long l) n = too_long l
 alike (not_derived s m) n = absurd (n refl)
 alike (no_link_room s r l) n = no_link_room s (reading_alike (further Rfc5988) r) l
@@ -316,18 +316,18 @@ reads_alike h L P o q a n b = one_answer Rfc5988 (alike (in_known refl a) n) q (
 
 -- what is answered of a table that is good in the one is answered in the other
 table_alike : {A : Type 0} {t : Table} {refusal : ℕ → A} {Out : A → Type 0} {o : A} → TableIn t refusal Out Rfc8288 o
-    → (o ≡ refusal bad_table → ⊥) → TableIn t refusal Out Rfc5988 o
+    → (o ≡ refusal bad_table_number → ⊥) → TableIn t refusal Out Rfc5988 o
 table_alike (refused (long_text l)) n = refused (long_text l)
 table_alike (refused (not_good s g)) n = absurd (n refl)
 table_alike {t = t} (usable u x) n = usable (record { short = u.short; good = good_alike Rfc8288 t u.good }) x
 
 over_alike : {A : Type 0} {t : Table} {refusal : ℕ → A} {Out : A → Type 0} {o : A} → OverTable (number_of Rfc8288) t refusal Out o
-    → (o ≡ refusal bad_table → ⊥) → OverTable (number_of Rfc5988) t refusal Out o
+    → (o ≡ refusal bad_table_number → ⊥) → OverTable (number_of Rfc5988) t refusal Out o
 over_alike d n = known {e = Rfc5988} refl (table_alike (in_known refl d) n)
 
 -- a base that is too long comes before the table
 context_alike : {t : Table} {base : List ℕ} {i : ℕ} {out : List ℕ} {o : CopyOut} → ContextIn t base i out Rfc8288 o
-    → (o ≡ untouched out bad_table → ⊥) → ContextIn t base i out Rfc5988 o
+    → (o ≡ untouched out bad_table_number → ⊥) → ContextIn t base i out Rfc5988 o
 context_alike (long_base l) n = long_base l
 context_alike (over_table h z) n = over_table h (table_alike z n)
 

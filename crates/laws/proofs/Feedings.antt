@@ -11,7 +11,7 @@ use Rattle.grammar.specs.Place.{Begun, Place}
 use Rattle.grammar.proofs.Editions.{apart}
 use Rattle.grammar.proofs.Growing.{begun_front, still_stuck}
 use Rattle.grammar.proofs.Places.{cut_short}
-use Rattle.outcomes.specs.Number.{limit, too_long_number, malformed_header}
+use Rattle.outcomes.specs.Number.{limit, too_long_number, malformed_header_number}
 use Rattle.outcomes.specs.Read
 use Rattle.outcomes.specs.Read.{ReadOut, Read, ReadIn, not_derived, no_link_room, no_param_room, reads}
 use Rattle.outcomes.specs.InEdition.{unknown, known}
@@ -94,7 +94,7 @@ pub feed_tells : FeedTells
 feed_tells e ps part buffer st next o d f s = tells (handed_right e d).room s (feed_answers_in e d f)
 
 -- 2 is answered with the place of octets of which something is wrong
-stuck_if : {e : Edition} {octets part buffer : List ℕ} {o : FeedOut} → FeedIn e octets part buffer o → o.number ≡ malformed_header
+stuck_if : {e : Edition} {octets part buffer : List ℕ} {o : FeedOut} → FeedIn e octets part buffer o → o.number ≡ malformed_header_number
     → (Begun (further e) (octets ++ part) → ⊥) × Place (further e) (octets ++ part) o.place
 stuck_if (small_buffer l) e = absurd (omega arith)
 stuck_if (too_long _ l) e = absurd (omega arith)

@@ -17,7 +17,7 @@ use Rattle.grammar.proofs.Closing.{CleanTo}
 use Rattle.grammar.proofs.Editions.{apart}
 use Rattle.grammar.proofs.Growing.{begins_front, faulty_append}
 use Rattle.grammar.proofs.Places.{judged, shut_faulty, faulty_shut, first_target}
-use Rattle.outcomes.specs.Number.{limit, done, malformed_header}
+use Rattle.outcomes.specs.Number.{limit, done, malformed_header_number}
 use Rattle.outcomes.specs.Feed.{FeedOut, unstored, FeedIn, small_buffer, too_long, wrong_so_far, right_so_far}
 use Rattle.outcomes.specs.Feeding.{Feeding, Feeds}
 use Rattle.outcomes.proofs.FeedSettled.{feed_in}
@@ -75,7 +75,7 @@ module _ (e : Edition) where
 
   closed_told : (ps : List (List ℕ)) (part buffer : List ℕ) (st next : Feeding) (o : FeedOut) → HandedOut (number_of e) ps buffer st
       → Feeds st part buffer o next → length (whole ps ++ part) ≤ limit → (a k : ℕ) → FirstFaulty e (whole ps ++ part) a k
-      → o ≡ unstored buffer malformed_header a
+      → o ≡ unstored buffer malformed_header_number a
   closed_told ps part buffer st next o d f s a k w =
       let one = (feed_in e (whole ps) part buffer).2 in
       one o (feed_answers_in e d f)

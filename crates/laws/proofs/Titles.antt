@@ -25,7 +25,7 @@ use Rattle.grammar.specs.Kept.{name_of, code_of, is_once}
 use Rattle.tables.specs.Table.{Table}
 use Rattle.tables.specs.Good.{Each, each_none, each_more}
 use Rattle.tables.specs.Meaning.{unescape, value_of}
-use Rattle.outcomes.specs.Number.{limit, no_output_room, no_such_link, not_found}
+use Rattle.outcomes.specs.Number.{limit, no_output_room_number, no_such_link_number, not_found_number}
 use Rattle.outcomes.specs.InEdition.{known}
 use Rattle.outcomes.specs.Usable.{Usable, usable}
 use Rattle.outcomes.specs.Kept.{kept}
@@ -106,12 +106,12 @@ is_long k (some v) = leb k (length v)
 
 -- the number of a link that isn't there, or has no title
 abbrev is_refused : Table → ℕ → ℕ → Bool
-is_refused t i n = eqb n no_such_link && leb t.link_count i || eqb n not_found && ltb i t.link_count && is_none (title_of t i)
+is_refused t i n = eqb n no_such_link_number && leb t.link_count i || eqb n not_found_number && ltb i t.link_count && is_none (title_of t i)
 
 -- that of a title that doesn't fit, where buffers have fewer octets than told
 abbrev is_short : Table → Option ℕ → ℕ → ℕ → Bool
 is_short t none i n = false
-is_short t (some k) i n = eqb n no_output_room && ltb i t.link_count && is_long k (title_of t i)
+is_short t (some k) i n = eqb n no_output_room_number && ltb i t.link_count && is_long k (title_of t i)
 
 abbrev answers_to : Table → Option ℕ → Asked → Bool
 answers_to t b (gives i v) = ltb i t.link_count && is_given v (title_of t i)
@@ -152,27 +152,27 @@ Below (some k) out = length out < k
 
 module _ (e : Edition) (t : Table) (u : Usable e t) where
   refused_so : (i n : ℕ) → is_refused t i n ≡ true → (out : List ℕ) → Titles (number_of e) t i out (untouched out n)
-  refused_so i n x out = go (either (eqb n no_such_link && leb t.link_count i) _ x)
+  refused_so i n x out = go (either (eqb n no_such_link_number && leb t.link_count i) _ x)
     where
-      go : ((eqb n no_such_link && leb t.link_count i) ≡ true) ⊎ ((eqb n not_found && ltb i t.link_count && is_none (title_of t i)) ≡ true)
+      go : ((eqb n no_such_link_number && leb t.link_count i) ≡ true) ⊎ ((eqb n not_found_number && ltb i t.link_count && is_none (title_of t i)) ≡ true)
           → Titles (number_of e) t i out (untouched out n)
       go (inl y) =
-          let (q, l) = both (eqb n no_such_link) (leb t.link_count i) y in
-          rw (eqb-true n no_such_link q) (known {e = e} refl (usable u (no_such_link (leb-true t.link_count i l))))
+          let (q, l) = both (eqb n no_such_link_number) (leb t.link_count i) y in
+          rw (eqb-true n no_such_link_number q) (known {e = e} refl (usable u (no_such_link (leb-true t.link_count i l))))
       go (inr y) =
-          let (ql, z) = both (eqb n not_found && ltb i t.link_count) (is_none (title_of t i)) y in
-          let (q, l) = both (eqb n not_found) (ltb i t.link_count) ql in
-          rw (eqb-true n not_found q)
+          let (ql, z) = both (eqb n not_found_number && ltb i t.link_count) (is_none (title_of t i)) y in
+          let (q, l) = both (eqb n not_found_number) (ltb i t.link_count) ql in
+          rw (eqb-true n not_found_number q)
           (known {e = e} refl (usable u (untitled (ltb-true i t.link_count l) (untitled_is t i (is_none_lem (title_of t i) z)))))
 
   short_so : (b : Option ℕ) (i n : ℕ) → is_short t b i n ≡ true → (out : List ℕ) → Below b out
       → Titles (number_of e) t i out (untouched out n)
   short_so none i n x out below = absurd (false≢true x)
   short_so (some k) i n x out below =
-      let (ql, z) = both (eqb n no_output_room && ltb i t.link_count) (is_long k (title_of t i)) x in
-      let (q, l) = both (eqb n no_output_room) (ltb i t.link_count) ql in
+      let (ql, z) = both (eqb n no_output_room_number && ltb i t.link_count) (is_long k (title_of t i)) x in
+      let (q, l) = both (eqb n no_output_room_number) (ltb i t.link_count) ql in
       let (v, g, m) = is_long_lem k (title_of t i) z in
-      rw (eqb-true n no_output_room q)
+      rw (eqb-true n no_output_room_number q)
       (known {e = e} refl (usable u (no_room (ltb-true i t.link_count l) (title_is t i v g) (omega (arith, m, below)))))
 
   answered : (b : Option ℕ) (q : Asked) → answers_to t b q ≡ true → (out : List ℕ) → Below b out → AnsweredIn e t out q

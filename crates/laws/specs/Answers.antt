@@ -8,7 +8,7 @@ use Rattle.grammar.specs.Records.{link_width, param_width, link_room_of, param_r
 use Rattle.grammar.specs.Join.{Padded, padded, join, raise_links, raise_params}
 use Rattle.tables.specs.Table.{Table}
 use Rattle.tables.specs.Meaning.{table_meanings}
-use Rattle.outcomes.specs.Number.{limit, done, malformed_header, bad_table}
+use Rattle.outcomes.specs.Number.{limit, done, malformed_header_number, bad_table_number}
 use Rattle.outcomes.specs.Read.{ReadOut, refused, Read}
 use Rattle.outcomes.specs.Search.{SearchOut, Search}
 use Rattle.outcomes.specs.Context.{ContextOut, Context}
@@ -86,7 +86,7 @@ JoinAnswers =
 -- a malformed header: reading it answers 2
 pub record Rejected (e : Edition) : Type 0 where
   pub alone : ReadAlone e
-  pub malformed : alone.out.number ≡ malformed_header
+  pub malformed : alone.out.number ≡ malformed_header_number
 
 -- the join of accepted headers, a malformed one, and accepted ones again
 abbrev pub broken_join : {e : Edition} → List (Accepted e) → Rejected e → List (Accepted e) → List ℕ
@@ -105,7 +105,7 @@ PlaceSettled b gs =
 
 -- number 2, zero counts, the tables as they were; the place is raised by the octets before, or lies behind that
 pub record JoinRefused {e : Edition} (hs : List (Accepted e)) (b : Rejected e) (gs : List (Accepted e)) (L P : List ℕ) (r : ReadOut) : Type 0 where
-  pub answer : r ≡ refused L P malformed_header r.place
+  pub answer : r ≡ refused L P malformed_header_number r.place
   pub not_before : octets_before hs b + b.alone.out.place ≤ r.place
   pub place : PlaceSettled b gs → r.place ≡ octets_before hs b + b.alone.out.place
 
@@ -159,20 +159,20 @@ WrittenApart =
 -- Unless RFC 8288's edition answers 2, the older one answers the same, with the same records in the tables.
 abbrev pub ReadsAlike : Type 0
 ReadsAlike =
-    (h L P : List ℕ) (o q : ReadOut) → Read (number_of Rfc8288) h L P o → (o.number ≡ malformed_header → ⊥)
+    (h L P : List ℕ) (o q : ReadOut) → Read (number_of Rfc8288) h L P o → (o.number ≡ malformed_header_number → ⊥)
     → Read (number_of Rfc5988) h L P q → q ≡ o
 
 -- Unless RFC 8288's edition answers 5 of a table, the older one answers the same of it.
 pub record TablesAlike : Type 0 where
-  pub search : (t : Table) (q : List ℕ) (o : SearchOut) → Search (number_of Rfc8288) t q o → (o.number ≡ bad_table → ⊥)
+  pub search : (t : Table) (q : List ℕ) (o : SearchOut) → Search (number_of Rfc8288) t q o → (o.number ≡ bad_table_number → ⊥)
       → Search (number_of Rfc5988) t q o
   pub context : (t : Table) (base : List ℕ) (i : ℕ) (o : ContextOut) → Context (number_of Rfc8288) t base i o
-      → (o.number ≡ bad_table → ⊥) → Context (number_of Rfc5988) t base i o
+      → (o.number ≡ bad_table_number → ⊥) → Context (number_of Rfc5988) t base i o
   pub copy : (t : Table) (i j : ℕ) (out : List ℕ) (o : CopyOut) → Copy (number_of Rfc8288) t i j out o
-      → (o.number ≡ bad_table → ⊥) → Copy (number_of Rfc5988) t i j out o
-  pub write : (t : Table) (out : List ℕ) (o : CopyOut) → Write (number_of Rfc8288) t out o → (o.number ≡ bad_table → ⊥)
+      → (o.number ≡ bad_table_number → ⊥) → Copy (number_of Rfc5988) t i j out o
+  pub write : (t : Table) (out : List ℕ) (o : CopyOut) → Write (number_of Rfc8288) t out o → (o.number ≡ bad_table_number → ⊥)
       → Write (number_of Rfc5988) t out o
   pub title : (t : Table) (i : ℕ) (out : List ℕ) (o : CopyOut) → Titles (number_of Rfc8288) t i out o
-      → (o.number ≡ bad_table → ⊥) → Titles (number_of Rfc5988) t i out o
+      → (o.number ≡ bad_table_number → ⊥) → Titles (number_of Rfc5988) t i out o
   pub resolved_context : (t : Table) (base : List ℕ) (i : ℕ) (out : List ℕ) (o : CopyOut)
-      → ResolvedContext (number_of Rfc8288) t base i out o → (o.number ≡ bad_table → ⊥) → ResolvedContext (number_of Rfc5988) t base i out o
+      → ResolvedContext (number_of Rfc8288) t base i out o → (o.number ≡ bad_table_number → ⊥) → ResolvedContext (number_of Rfc5988) t base i out o

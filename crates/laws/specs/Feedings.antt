@@ -4,7 +4,7 @@ use Rattle.octets.specs.Text.{octets}
 use Rattle.octets.specs.Editions.{number_of, further, NoEdition}
 use Rattle.octets.specs.declared.editions.Edition.{Edition}
 use Rattle.grammar.specs.Place.{Begins, Begun, Faulty, NoneFaulty, Malformed}
-use Rattle.outcomes.specs.Number.{limit, done, too_long_number, malformed_header}
+use Rattle.outcomes.specs.Number.{limit, done, too_long_number, malformed_header_number}
 use Rattle.outcomes.specs.Read.{ReadOut, refused as refusedAt, Read}
 use Rattle.outcomes.specs.Feed.{FeedOut, unstored, Feed}
 use Rattle.outcomes.specs.Feeding.{Feeding, Holds, start, Feeds, Finishes}
@@ -48,7 +48,7 @@ abbrev pub CutShortFinishes : Type 0
 CutShortFinishes =
     (e : Edition) (ps : List (List ℕ)) (buffer : List ℕ) (st : Feeding) → HandedOut (number_of e) ps buffer st
     → length (whole ps) ≤ limit → Begun (further e) (whole ps) → Malformed (further e) (whole ps)
-    → (L P : List ℕ) (o : ReadOut) → Finishes st buffer L P o → o ≡ refusedAt L P malformed_header (length (whole ps))
+    → (L P : List ℕ) (o : ReadOut) → Finishes st buffer L P o → o ≡ refusedAt L P malformed_header_number (length (whole ps))
 
 -- a feed behind any list of parts answers the outcome on all octets so far
 abbrev pub FeedAnswers : Type 0
@@ -59,8 +59,8 @@ FeedAnswers =
 -- 2 is answered exactly if something is wrong with the octets: no derivable header begins with them, or a target that is closed among
 -- them is no reference
 pub record Tells (e : Edition) (octets : List ℕ) (o : FeedOut) : Type 0 where
-  pub wrong : o.number ≡ malformed_header → Begun (further e) octets → ⊥
-  pub told : (Begun (further e) octets → ⊥) → o.number ≡ malformed_header
+  pub wrong : o.number ≡ malformed_header_number → Begun (further e) octets → ⊥
+  pub told : (Begun (further e) octets → ⊥) → o.number ≡ malformed_header_number
 
 -- so does a feed within the limit, of all octets so far
 abbrev pub FeedTells : Type 0
@@ -87,20 +87,20 @@ pub record TargetsTold (e : Edition) : Type 0 where
       → n ≤ k → whole ps ++ part ≡ take n header → o.number ≡ done
   pub closed : (ps : List (List ℕ)) (part buffer : List ℕ) (st next : Feeding) (o : FeedOut) → HandedOut (number_of e) ps buffer st
       → Feeds st part buffer o next → length (whole ps ++ part) ≤ limit → (a k : ℕ) → FirstFaulty e (whole ps ++ part) a k
-      → o ≡ unstored buffer malformed_header a
+      → o ≡ unstored buffer malformed_header_number a
   pub two_parts : (buffer : List ℕ) (st next : Feeding) (o : FeedOut) → HandedOut (number_of e) (octets "<1" ∷ []) buffer st
       → Feeds st (octets ":a") buffer o next → o.number ≡ done
   pub three_parts : (buffer : List ℕ) (st next : Feeding) (o : FeedOut)
       → HandedOut (number_of e) (octets "<1" ∷ octets ":a" ∷ []) buffer st → Feeds st (octets ">") buffer o next
-      → o ≡ unstored buffer malformed_header 1
+      → o ≡ unstored buffer malformed_header_number 1
 
 -- once a feed answers 2, later feeds within the limit answer 2 with the same place
 abbrev pub PlaceStays : Type 0
 PlaceStays =
     (e : Edition) (ps qs : List (List ℕ)) (part more buffer other : List ℕ) (st next su after : Feeding) (o q : FeedOut)
-    → HandedOut (number_of e) ps buffer st → Feeds st part buffer o next → o.number ≡ malformed_header
+    → HandedOut (number_of e) ps buffer st → Feeds st part buffer o next → o.number ≡ malformed_header_number
     → HandedOut (number_of e) (ps ++ part ∷ qs) other su → Feeds su more other q after → length (whole (ps ++ part ∷ qs) ++ more) ≤ limit
-    → q ≡ unstored other malformed_header o.place
+    → q ≡ unstored other malformed_header_number o.place
 
 -- Once a feed answers 1, the octets so far are over the limit; and then all later feeds, also of no octets, and the finish answer 1,
 -- with any buffer that is large enough.

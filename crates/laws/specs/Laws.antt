@@ -11,7 +11,7 @@ use Rattle.grammar.specs.Place.{Malformed}
 use Rattle.grammar.specs.Join.{Padded, join}
 use Rattle.tables.specs.Good.{Each, Agrees}
 use Rattle.tables.specs.Table.{Table, link_at}
-use Rattle.outcomes.specs.Number.{limit, done, bad_table, no_such_link, not_found}
+use Rattle.outcomes.specs.Number.{limit, done, bad_table_number, no_such_link_number, not_found_number}
 use Rattle.outcomes.specs.Context.{of_text, of_base, nothing, Context}
 use Rattle.outcomes.specs.Search.{Search}
 use Rattle.outcomes.specs.Copy.{untouched, holding, Copy}
@@ -69,20 +69,20 @@ pub record LookupsHold (e : Edition) : Type 0 where
       → Context (number_of e) third base 0 (record { number = done; source = of_text; start = 35; end = 39 })
   pub copied_first : (out : List ℕ) → 9 ≤ length out → Copy (number_of e) third 0 0 out (holding out (octets "copyright"))
   pub copied_second : (out : List ℕ) → 4 ≤ length out → Copy (number_of e) third 0 1 out (holding out (octets "#foo"))
-  pub no_third : (out : List ℕ) → Copy (number_of e) third 0 2 out (untouched out not_found)
-  pub no_second : (base : List ℕ) → Context (number_of e) third base 1 (nothing no_such_link)
+  pub no_third : (out : List ℕ) → Copy (number_of e) third 0 2 out (untouched out not_found_number)
+  pub no_second : (base : List ℕ) → Context (number_of e) third base 1 (nothing no_such_link_number)
   pub unanchored : (base : List ℕ)
       → Context (number_of e) fifth base 0 (record { number = done; source = of_base; start = 0; end = length base })
 
 -- whatever is asked of the table, the edition answers 5
 pub record IsBad (e : Edition) (t : Table) : Type 0 where
-  pub search : (q : List ℕ) → Search (number_of e) t q (record { number = bad_table; link = 0 })
-  pub context : (base : List ℕ) (i : ℕ) → Context (number_of e) t base i (nothing bad_table)
-  pub copy : (i j : ℕ) (out : List ℕ) → Copy (number_of e) t i j out (untouched out bad_table)
-  pub write : (out : List ℕ) → Write (number_of e) t out (untouched out bad_table)
-  pub title : (i : ℕ) (out : List ℕ) → Titles (number_of e) t i out (untouched out bad_table)
+  pub search : (q : List ℕ) → Search (number_of e) t q (record { number = bad_table_number; link = 0 })
+  pub context : (base : List ℕ) (i : ℕ) → Context (number_of e) t base i (nothing bad_table_number)
+  pub copy : (i j : ℕ) (out : List ℕ) → Copy (number_of e) t i j out (untouched out bad_table_number)
+  pub write : (out : List ℕ) → Write (number_of e) t out (untouched out bad_table_number)
+  pub title : (i : ℕ) (out : List ℕ) → Titles (number_of e) t i out (untouched out bad_table_number)
   pub resolved_context : (base : List ℕ) (i : ℕ) (out : List ℕ) → length base ≤ limit
-      → ResolvedContext (number_of e) t base i out (untouched out bad_table)
+      → ResolvedContext (number_of e) t base i out (untouched out bad_table_number)
 
 -- Of a table with values of form 3: the older edition hands out their octets as they stand, and in RFC 8288's the table is not good.
 pub record MirrorHolds : Type 0 where

@@ -1,7 +1,7 @@
 -- The twelve headers read by hand that are proved together.
 use Rattle.std.specs.Prelude.{List, [], ◌∷◌}
 use Rattle.octets.specs.Text.{octets}
-use Rattle.outcomes.specs.Number.{no_relation}
+use Rattle.outcomes.specs.Number.{no_relation_number}
 use Rattle.laws.specs.Row.{Row, reads, malformed, writes, answers}
 
 abbrev pub marked : List Row
@@ -16,7 +16,7 @@ marked =
     }
     ∷ record {
       header = octets "<>;x";
-      judgement = reads (1 ∷ 1 ∷ 0 ∷ 1 ∷ []) (3 ∷ 4 ∷ 4 ∷ 4 ∷ 0 ∷ 0 ∷ []) [] (answers no_relation);
+      judgement = reads (1 ∷ 1 ∷ 0 ∷ 1 ∷ []) (3 ∷ 4 ∷ 4 ∷ 4 ∷ 0 ∷ 0 ∷ []) [] (answers no_relation_number);
     }
     ∷ record {
       header = octets "<a>;REL=Next;rel=prev";
@@ -35,6 +35,6 @@ marked =
     ∷ record { header = octets "<a>;x=,<b>"; judgement = malformed 6 }
     ∷ record {
       header = octets "<a>;t=\"b,c\"";
-      judgement = reads (1 ∷ 2 ∷ 0 ∷ 1 ∷ []) (4 ∷ 5 ∷ 7 ∷ 10 ∷ 2 ∷ 0 ∷ []) [] (answers no_relation);
+      judgement = reads (1 ∷ 2 ∷ 0 ∷ 1 ∷ []) (4 ∷ 5 ∷ 7 ∷ 10 ∷ 2 ∷ 0 ∷ []) [] (answers no_relation_number);
     }
     ∷ []

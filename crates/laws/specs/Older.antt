@@ -2,7 +2,7 @@
 -- statement as for the marked ones.
 use Rattle.std.specs.Prelude.{List, [], ◌∷◌}
 use Rattle.octets.specs.Text.{octets}
-use Rattle.outcomes.specs.Number.{no_relation}
+use Rattle.outcomes.specs.Number.{no_relation_number}
 use Rattle.laws.specs.Row.{Row, reads, malformed, writes, answers}
 
 -- in the older edition
@@ -28,10 +28,10 @@ older =
           reads (1 ∷ 2 ∷ 0 ∷ 1 ∷ []) (4 ∷ 7 ∷ 8 ∷ 12 ∷ 1 ∷ 1 ∷ []) (octets "next" ∷ []) (writes (octets "<a>; rel=next"));
     }
     -- `=` and `<` may begin a value, and then `<` opens no target
-    ∷ record { header = octets "<a>;x=="; judgement = reads (1 ∷ 2 ∷ 0 ∷ 1 ∷ []) (4 ∷ 5 ∷ 6 ∷ 7 ∷ 3 ∷ 0 ∷ []) [] (answers no_relation) }
+    ∷ record { header = octets "<a>;x=="; judgement = reads (1 ∷ 2 ∷ 0 ∷ 1 ∷ []) (4 ∷ 5 ∷ 6 ∷ 7 ∷ 3 ∷ 0 ∷ []) [] (answers no_relation_number) }
     ∷ record {
       header = octets "<a>;x=<b>";
-      judgement = reads (1 ∷ 2 ∷ 0 ∷ 1 ∷ []) (4 ∷ 5 ∷ 6 ∷ 9 ∷ 3 ∷ 0 ∷ []) [] (answers no_relation);
+      judgement = reads (1 ∷ 2 ∷ 0 ∷ 1 ∷ []) (4 ∷ 5 ∷ 6 ∷ 9 ∷ 3 ∷ 0 ∷ []) [] (answers no_relation_number);
     }
     -- each of the further octets, and all that ends such a value: a blank, a semicolon, a comma
     ∷ record {

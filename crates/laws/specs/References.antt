@@ -2,7 +2,7 @@
 use Rattle.std.specs.Prelude.{ℕ, List, [], ◌∷◌, length}
 use Rattle.octets.specs.Text.{octets}
 use Rattle.tables.specs.Table.{Table}
-use Rattle.outcomes.specs.Number.{no_relation}
+use Rattle.outcomes.specs.Number.{no_relation_number}
 use Rattle.laws.specs.Row.{Row, reads, malformed, writes, answers, recorded_table}
 
 -- in each edition
@@ -26,7 +26,7 @@ references =
     -- a wrong octet before it leaves it unread
     ∷ record { header = octets "<a>x,<1:a>"; judgement = malformed 3 }
     -- the empty reference, and one with all its components
-    ∷ record { header = octets "<>"; judgement = reads (1 ∷ 1 ∷ 0 ∷ 0 ∷ []) [] [] (answers no_relation) }
+    ∷ record { header = octets "<>"; judgement = reads (1 ∷ 1 ∷ 0 ∷ 0 ∷ []) [] [] (answers no_relation_number) }
     ∷ record {
       header = octets "<x://u@[::1]:80/b?c#d>;rel=e";
       judgement =
@@ -36,11 +36,11 @@ references =
     -- no value is judged as a target, not even an anchor's
     ∷ record {
       header = octets "<a>;x=\"<1:a>\"";
-      judgement = reads (1 ∷ 2 ∷ 0 ∷ 1 ∷ []) (4 ∷ 5 ∷ 7 ∷ 12 ∷ 2 ∷ 0 ∷ []) [] (answers no_relation);
+      judgement = reads (1 ∷ 2 ∷ 0 ∷ 1 ∷ []) (4 ∷ 5 ∷ 7 ∷ 12 ∷ 2 ∷ 0 ∷ []) [] (answers no_relation_number);
     }
     ∷ record {
       header = octets "<a>;anchor=\"1:a\"";
-      judgement = reads (1 ∷ 2 ∷ 0 ∷ 1 ∷ []) (4 ∷ 10 ∷ 12 ∷ 15 ∷ 2 ∷ 2 ∷ []) [] (answers no_relation);
+      judgement = reads (1 ∷ 2 ∷ 0 ∷ 1 ∷ []) (4 ∷ 10 ∷ 12 ∷ 15 ∷ 2 ∷ 2 ∷ []) [] (answers no_relation_number);
     }
     ∷ []
 
@@ -49,7 +49,7 @@ abbrev pub bare_read : List Row
 bare_read =
     record {
       header = octets "<a>;x=<1:a>";
-      judgement = reads (1 ∷ 2 ∷ 0 ∷ 1 ∷ []) (4 ∷ 5 ∷ 6 ∷ 11 ∷ 3 ∷ 0 ∷ []) [] (answers no_relation);
+      judgement = reads (1 ∷ 2 ∷ 0 ∷ 1 ∷ []) (4 ∷ 5 ∷ 6 ∷ 11 ∷ 3 ∷ 0 ∷ []) [] (answers no_relation_number);
     }
     ∷ []
 

@@ -5,7 +5,7 @@ use Rattle.octets.specs.declared.editions.Edition.{Edition}
 use Rattle.grammar.specs.Records.{link_width, param_width, link_room_of, param_room_of}
 use Rattle.tables.specs.Table.{Table}
 use Rattle.tables.specs.Good.{Each}
-use Rattle.outcomes.specs.Number.{done, malformed_header}
+use Rattle.outcomes.specs.Number.{done, malformed_header_number}
 use Rattle.outcomes.specs.Read.{Read, refused}
 use Rattle.outcomes.specs.Search.{Search}
 use Rattle.outcomes.specs.Copy.{untouched, holding}
@@ -57,7 +57,7 @@ module _ (e : Edition) where
 
   abbrev pub Judged : List ℕ → Judgement → Type 0
   Judged h (reads ls ps qs w) = ReadHolds h ls ps qs w
-  Judged h (malformed k) = (L P : List ℕ) → Read (number_of e) h L P (refused L P malformed_header k)
+  Judged h (malformed k) = (L P : List ℕ) → Read (number_of e) h L P (refused L P malformed_header_number k)
 
   abbrev pub RowHolds : Row → Type 0
   RowHolds r = Judged r.header r.judgement

@@ -1,7 +1,7 @@
 -- Headers at which readers elsewhere slip: the same statement as for the marked ones.
 use Rattle.std.specs.Prelude.{List, [], ◌∷◌}
 use Rattle.octets.specs.Text.{octets}
-use Rattle.outcomes.specs.Number.{no_relation}
+use Rattle.outcomes.specs.Number.{no_relation_number}
 use Rattle.laws.specs.Row.{Row, reads, malformed, writes, answers}
 
 abbrev pub slips : List Row
@@ -9,9 +9,9 @@ slips =
     -- cut short inside quotes
     record { header = octets "<a>;t=\"b"; judgement = malformed 8 }
     -- a comma inside a target parts no links
-    ∷ record { header = octets "<a,b>"; judgement = reads (1 ∷ 4 ∷ 0 ∷ 0 ∷ []) [] [] (answers no_relation) }
+    ∷ record { header = octets "<a,b>"; judgement = reads (1 ∷ 4 ∷ 0 ∷ 0 ∷ []) [] [] (answers no_relation_number) }
     -- an empty place before the first link
-    ∷ record { header = octets ",<a>"; judgement = reads (2 ∷ 3 ∷ 0 ∷ 0 ∷ []) [] [] (answers no_relation) }
+    ∷ record { header = octets ",<a>"; judgement = reads (2 ∷ 3 ∷ 0 ∷ 0 ∷ []) [] [] (answers no_relation_number) }
     -- a semicolon and a comma inside quotes part nothing
     ∷ record {
       header = octets "<a>;t=\";,\";rel=b";
@@ -50,15 +50,15 @@ slips =
           (writes (octets "<a>; rel=b; c=\"\", <d>; rel=e"));
     }
     -- a `rel` without a value, with an empty one, or with spaces alone, also escaped ones, holds no relation
-    ∷ record { header = octets "<a>;rel"; judgement = reads (1 ∷ 2 ∷ 0 ∷ 1 ∷ []) (4 ∷ 7 ∷ 7 ∷ 7 ∷ 0 ∷ 1 ∷ []) [] (answers no_relation) }
-    ∷ record { header = octets "<a>;rel=\"\""; judgement = reads (1 ∷ 2 ∷ 0 ∷ 1 ∷ []) (4 ∷ 7 ∷ 9 ∷ 9 ∷ 2 ∷ 1 ∷ []) [] (answers no_relation) }
+    ∷ record { header = octets "<a>;rel"; judgement = reads (1 ∷ 2 ∷ 0 ∷ 1 ∷ []) (4 ∷ 7 ∷ 7 ∷ 7 ∷ 0 ∷ 1 ∷ []) [] (answers no_relation_number) }
+    ∷ record { header = octets "<a>;rel=\"\""; judgement = reads (1 ∷ 2 ∷ 0 ∷ 1 ∷ []) (4 ∷ 7 ∷ 9 ∷ 9 ∷ 2 ∷ 1 ∷ []) [] (answers no_relation_number) }
     ∷ record {
       header = octets "<a>;rel=\"  \"";
-      judgement = reads (1 ∷ 2 ∷ 0 ∷ 1 ∷ []) (4 ∷ 7 ∷ 9 ∷ 11 ∷ 2 ∷ 1 ∷ []) [] (answers no_relation);
+      judgement = reads (1 ∷ 2 ∷ 0 ∷ 1 ∷ []) (4 ∷ 7 ∷ 9 ∷ 11 ∷ 2 ∷ 1 ∷ []) [] (answers no_relation_number);
     }
     ∷ record {
       header = octets "<a>;rel=\"\\ \\ \"";
-      judgement = reads (1 ∷ 2 ∷ 0 ∷ 1 ∷ []) (4 ∷ 7 ∷ 9 ∷ 13 ∷ 2 ∷ 1 ∷ []) [] (answers no_relation);
+      judgement = reads (1 ∷ 2 ∷ 0 ∷ 1 ∷ []) (4 ∷ 7 ∷ 9 ∷ 13 ∷ 2 ∷ 1 ∷ []) [] (answers no_relation_number);
     }
     -- a later one of a kept name must still be well formed
     ∷ record { header = octets "<a>;rel=b;rel=;"; judgement = malformed 14 }

@@ -5,7 +5,7 @@ use Rattle.octets.specs.Editions.{number_of}
 use Rattle.octets.specs.declared.editions.Edition.{Edition}
 use Rattle.tables.specs.Table.{Table}
 use Rattle.tables.specs.Good.{Each}
-use Rattle.outcomes.specs.Number.{no_output_room, no_such_link, not_found}
+use Rattle.outcomes.specs.Number.{no_output_room_number, no_such_link_number, not_found_number}
 use Rattle.outcomes.specs.Copy.{untouched, holding}
 use Rattle.outcomes.specs.Title.{Titles}
 use Rattle.laws.specs.Row.{recorded_table, Fills}
@@ -50,7 +50,7 @@ titles =
           21 ∷ 24 ∷ 26 ∷ 34 ∷ 2 ∷ 1 ∷ 37 ∷ 43 ∷ 44 ∷ 70 ∷ 1 ∷ 5 ∷ 93 ∷ 96 ∷ 98 ∷ 102 ∷ 2 ∷ 1 ∷ 105 ∷ 111 ∷ 112 ∷ 144 ∷ 1 ∷ 5 ∷ [];
       asked =
           gives 0 (octets "letztes Kapitel") ∷ gives 1 (octets "n" ++ 0xC3 ∷ 0xA4 ∷ octets "chstes Kapitel")
-          ∷ answers 2 no_such_link ∷ [];
+          ∷ answers 2 no_such_link_number ∷ [];
     }
     -- backslashes come out of a quoted `title*` before it is judged
     ∷ record {
@@ -98,14 +98,14 @@ titles =
       header = octets "<a>;title*=ISO-8859-1''f;title*=UTF-8''g";
       links = 1 ∷ 2 ∷ 0 ∷ 1 ∷ [];
       params = 4 ∷ 10 ∷ 11 ∷ 24 ∷ 1 ∷ 5 ∷ [];
-      asked = answers 0 not_found ∷ [];
+      asked = answers 0 not_found_number ∷ [];
     }
     -- neither
     ∷ record {
       header = octets "<a>;rel=h";
       links = 1 ∷ 2 ∷ 0 ∷ 1 ∷ [];
       params = 4 ∷ 7 ∷ 8 ∷ 9 ∷ 1 ∷ 1 ∷ [];
-      asked = answers 0 not_found ∷ answers 1 no_such_link ∷ [];
+      asked = answers 0 not_found_number ∷ answers 1 no_such_link_number ∷ [];
     }
     -- the name and the charset in any case, and `title*` before `title` wherever it stands
     ∷ record {
@@ -119,6 +119,6 @@ titles =
       header = octets "<a>;title*=UTF-8''jkl;title=m";
       links = 1 ∷ 2 ∷ 0 ∷ 2 ∷ [];
       params = 4 ∷ 10 ∷ 11 ∷ 21 ∷ 1 ∷ 5 ∷ 22 ∷ 27 ∷ 28 ∷ 29 ∷ 1 ∷ 4 ∷ [];
-      asked = gives 0 (octets "jkl") ∷ under 3 (answers 0 no_output_room) ∷ [];
+      asked = gives 0 (octets "jkl") ∷ under 3 (answers 0 no_output_room_number) ∷ [];
     }
     ∷ []

@@ -1,5 +1,7 @@
 // The sets of octets that the grammar names, tested by one table: a class number for each octet, with a bit for each set. A call makes the
 // table once and hands it down, since a constant that is read in a loop is built anew at each look.
+#![tactic(auto)]
+
 ghost use Rattle.std.specs.Prelude.{◌≡◌};
 ghost use Rattle.octets.specs.Editions.{further};
 ghost use Rattle.octet_classes.specs.Sets.{is_in};

@@ -1,5 +1,7 @@
 // Octets: the editions of the grammar, by their sets of octets; and the law of how many pairs of octets tell whether two texts are the
 // same.
+#![tactic(auto)]
+
 ghost use Rattle.octets.specs.Laws.{PairsTell};
 
 pub mod editions;

@@ -6,7 +6,7 @@ use mathlib.Core.Option.{none, some}
 use lib.ListN.{length}
 use Rattle.grammar.specs.Link.{Param}
 use Rattle.tables.specs.Table.{Table}
-use Rattle.outcomes.specs.Number.{done, no_such_link}
+use Rattle.outcomes.specs.Number.{done, no_such_link_number}
 use Rattle.outcomes.specs.Context.{of_text, of_base, ContextOut, anchor, nothing, ContextOf, no_such_link}
 use Rattle.outcomes.specs.Context.{anchored, unanchored}
 use Rattle.outcomes.specs.Laws.{Settled, ContextSettled}
@@ -20,7 +20,7 @@ span p = record { number = done; source = of_text; start = p.value_from; end = p
 module _ (t : Table) (base : List ℕ) (i : ℕ) where
   abbrev Cases : ContextOut → Type 0
   Cases =
-      Order t.link_count i (λ q. q ≡ nothing no_such_link)
+      Order t.link_count i (λ q. q ≡ nothing no_such_link_number)
       (Branch ((p : Param) × (anchor t i ≡ some p)) (λ p q. q ≡ span p.0)
       (anchor t i ≡ none) (λ q. q ≡ record { number = done; source = of_base; start = 0; end = length base }))
 

@@ -4,7 +4,7 @@ use mathlib.Core.Path.{◌≡◌, refl}
 use mathlib.Core.List.{List}
 use lib.ListN.{length}
 use Rattle.tables.specs.Table.{Table, count_of}
-use Rattle.outcomes.specs.Number.{no_output_room, no_such_link, not_found}
+use Rattle.outcomes.specs.Number.{no_output_room_number, no_such_link_number, not_found_number}
 use Rattle.outcomes.specs.Copy.{CopyOut, untouched, holding, meant, Copied, no_such_link, no_such_param}
 use Rattle.outcomes.specs.Copy.{no_room, copied}
 use Rattle.outcomes.specs.Laws.{Settled, CopySettled}
@@ -14,9 +14,9 @@ use Rattle.outcomes.proofs.Usable.{over_settled}
 module _ (t : Table) (i j : ℕ) (out : List ℕ) where
   abbrev Cases : CopyOut → Type 0
   Cases =
-      Order t.link_count i (λ q. q ≡ untouched out no_such_link)
-      (Order (count_of t.link_slots i) j (λ q. q ≡ untouched out not_found)
-      (Order (length (meant t i j)) (length out) (λ q. q ≡ holding out (meant t i j)) (λ q. q ≡ untouched out no_output_room)))
+      Order t.link_count i (λ q. q ≡ untouched out no_such_link_number)
+      (Order (count_of t.link_slots i) j (λ q. q ≡ untouched out not_found_number)
+      (Order (length (meant t i j)) (length out) (λ q. q ≡ holding out (meant t i j)) (λ q. q ≡ untouched out no_output_room_number)))
 
   cases : (q : CopyOut) → Copied t i j out q → Cases q
   cases _ (no_such_link h) = this h refl

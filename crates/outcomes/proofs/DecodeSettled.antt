@@ -8,7 +8,7 @@ use lib.ListN.{length}
 use Rattle.extended.specs.Value.{Extended, Wrong}
 use Rattle.extended.specs.Decoded.{decoded}
 use Rattle.extended.proofs.Exact.{decoded_exact, one_text}
-use Rattle.outcomes.specs.Number.{limit, too_long_number, no_output_room, bad_extended}
+use Rattle.outcomes.specs.Number.{limit, too_long_number, no_output_room_number, bad_extended_number}
 use Rattle.outcomes.specs.Copy.{CopyOut, untouched, holding}
 use Rattle.outcomes.specs.Decode.{Decode, too_long, wrong, no_room, gives}
 use Rattle.outcomes.specs.Laws.{Settled, DecodeSettled}
@@ -25,13 +25,13 @@ right_or_wrong w = go (some_or_none (decoded w))
 
 -- the octets v are handed out if they fit
 abbrev pub Fits : List ℕ → List ℕ → CopyOut → Type 0
-Fits out v = Order (length v) (length out) (λ q. q ≡ holding out v) (λ q. q ≡ untouched out no_output_room)
+Fits out v = Order (length v) (length out) (λ q. q ≡ holding out v) (λ q. q ≡ untouched out no_output_room_number)
 
 module _ (w out : List ℕ) where
   abbrev Cases : CopyOut → Type 0
   Cases =
       Order (length w) limit
-      (Branch ((v : List ℕ) × Extended w v) (λ x. Fits out x.0) (Wrong w) (λ q. q ≡ untouched out bad_extended))
+      (Branch ((v : List ℕ) × Extended w v) (λ x. Fits out x.0) (Wrong w) (λ q. q ≡ untouched out bad_extended_number))
       (λ q. q ≡ untouched out too_long_number)
 
   cases : (q : CopyOut) → Decode w out q → Cases q

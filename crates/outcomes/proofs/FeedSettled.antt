@@ -9,7 +9,7 @@ use Rattle.octets.specs.declared.editions.Edition.{Edition}
 use Rattle.grammar.specs.Place.{Begun}
 use Rattle.grammar.proofs.Editions.{apart}
 use Rattle.grammar.proofs.Places.{one_place, begun_decided, begun_nothing}
-use Rattle.outcomes.specs.Number.{limit, too_long_number, malformed_header, no_output_room}
+use Rattle.outcomes.specs.Number.{limit, too_long_number, malformed_header_number, no_output_room_number}
 use Rattle.outcomes.specs.Read.{ReadOut, refused, ReadIn}
 use Rattle.outcomes.specs.Feed.{
   FeedOut,
@@ -40,16 +40,16 @@ module _ (e : Edition) (fed part buffer : List ℕ) where
       Order limit (length buffer)
       (Order (length (fed ++ part)) limit
       (Branch (Begun (further e) (fed ++ part)) (λ b q. q ≡ gathering (fed ++ part) buffer)
-      (Begun (further e) (fed ++ part) → ⊥) (λ q. q ≡ unstored buffer malformed_header place))
+      (Begun (further e) (fed ++ part) → ⊥) (λ q. q ≡ unstored buffer malformed_header_number place))
       (λ q. q ≡ unstored buffer too_long_number 0))
-      (λ q. q ≡ unstored buffer no_output_room 0)
+      (λ q. q ≡ unstored buffer no_output_room_number 0)
 
   cases : (q : FeedOut) → FeedIn e fed part buffer q → Cases q
   cases _ (small_buffer l) = that l refl
   cases _ (too_long h l) = this h (that l refl)
   cases _ (wrong_so_far {k} h s n p) =
       this h
-      (this s (that n (ap (unstored buffer malformed_header) ((one_place (further e) (apart e) (fed ++ part)).2 k p))))
+      (this s (that n (ap (unstored buffer malformed_header_number) ((one_place (further e) (apart e) (fed ++ part)).2 k p))))
   cases _ (right_so_far h s b) = this h (this s (this b refl))
 
   pub feed_in : Settled (FeedIn e fed part buffer)
@@ -68,7 +68,7 @@ feed_settled n fed part buffer = edition_settled (λ e. feed_in e fed part buffe
 
 module _ (e : Edition) (fed buffer L P : List ℕ) where
   abbrev Ends : ReadOut → Type 0
-  Ends = Order limit (length buffer) (ReadIn e fed L P) (λ q. q ≡ refused L P no_output_room 0)
+  Ends = Order limit (length buffer) (ReadIn e fed L P) (λ q. q ≡ refused L P no_output_room_number 0)
 
   ends : (q : ReadOut) → FinishIn e fed buffer L P q → Ends q
   ends _ (no_buffer l) = that l refl

@@ -12,7 +12,7 @@ use Rattle.grammar.specs.Place.{Malformed}
 use Rattle.grammar.proofs.Editions.{apart}
 use Rattle.grammar.proofs.Readings.{one_reading, decided}
 use Rattle.grammar.proofs.Places.{one_place}
-use Rattle.outcomes.specs.Number.{limit, too_long_number, malformed_header, no_link_room, no_param_room}
+use Rattle.outcomes.specs.Number.{limit, too_long_number, malformed_header_number, no_link_room_number, no_param_room_number}
 use Rattle.outcomes.specs.Read.{ReadOut, refused, filled, ReadIn, too_long, not_derived, no_link_room, no_param_room, reads}
 use Rattle.outcomes.specs.Laws.{Settled, ReadSettled}
 use Rattle.outcomes.proofs.Cases.{Branch, this, that, Order, only, branch, order, settled}
@@ -27,20 +27,20 @@ module _ (e : Edition) (h L P : List ℕ) where
   abbrev Fits : List Link → ReadOut → Type 0
   Fits K =
       Order (length K) (link_room_of L)
-      (Order (count_params K) (param_room_of P) (λ q. q ≡ filled h L P K) (λ q. q ≡ refused L P no_param_room 0))
-      (λ q. q ≡ refused L P no_link_room 0)
+      (Order (count_params K) (param_room_of P) (λ q. q ≡ filled h L P K) (λ q. q ≡ refused L P no_param_room_number 0))
+      (λ q. q ≡ refused L P no_link_room_number 0)
 
   abbrev Cases : ReadOut → Type 0
   Cases =
       Order (length h) limit
       (Branch ((K : List Link) × Reading (further e) h K) (λ r. Fits r.0)
-      (Malformed (further e) h) (λ q. q ≡ refused L P malformed_header (place e h)))
+      (Malformed (further e) h) (λ q. q ≡ refused L P malformed_header_number (place e h)))
       (λ q. q ≡ refused L P too_long_number 0)
 
   cases : (q : ReadOut) → ReadIn e h L P q → Cases q
   cases _ (too_long l) = that l refl
   cases _ (not_derived {k} s m) =
-      this s (that m.malformed (ap (refused L P malformed_header) ((one_place (further e) (apart e) h).2 k m.place)))
+      this s (that m.malformed (ap (refused L P malformed_header_number) ((one_place (further e) (apart e) h).2 k m.place)))
   cases _ (no_link_room s r l) = this s (this (_, r) (that l refl))
   cases _ (no_param_room s r f l) = this s (this (_, r) (this f (that l refl)))
   cases _ (reads s r f g) = this s (this (_, r) (this f (this g refl)))

@@ -7,7 +7,7 @@ use mathlib.Core.List.{List}
 use lib.ListN.{length}
 use Rattle.references.specs.AppendixA.{uri_reference, URI, IsReference}
 use Rattle.resolution.specs.Resolve.{resolved}
-use Rattle.outcomes.specs.Number.{limit, too_long_number, bad_base, bad_reference}
+use Rattle.outcomes.specs.Number.{limit, too_long_number, bad_base_number, bad_reference_number}
 use Rattle.outcomes.specs.Copy.{CopyOut, untouched}
 use Rattle.outcomes.specs.Resolve as outcome
 use Rattle.outcomes.specs.Resolve.{Fitted, Resolve}
@@ -29,11 +29,11 @@ fitted_settled out v =
 
 -- what may be no reference, on a base that is a URI
 abbrev pub OnBase : List ℕ → List ℕ → List ℕ → CopyOut → Type 0
-OnBase w base out = Derived uri_reference w (Fitted out (resolved base w)) (λ q. q ≡ untouched out bad_reference)
+OnBase w base out = Derived uri_reference w (Fitted out (resolved base w)) (λ q. q ≡ untouched out bad_reference_number)
 
 pub on_base : {Out : CopyOut → Type 0} (w base out : List ℕ)
     → ((o : CopyOut) → IsReference w → Fitted out (resolved base w) o → Out o)
-    → ((IsReference w → ⊥) → Out (untouched out bad_reference)) → Settles Out (OnBase w base out)
+    → ((IsReference w → ⊥) → Out (untouched out bad_reference_number)) → Settles Out (OnBase w base out)
 on_base w base out f g = derived uri_reference w (λ r. as_settled (λ o. f o r) (fitted_settled out (resolved base w))) (λ n. only (g n))
 
 long_or_short : (m n : ℕ) → ((limit < m) ⊎ (limit < n)) ⊎ ((m ≤ limit) × (n ≤ limit))
@@ -48,7 +48,7 @@ module _ (w base out : List ℕ) where
   abbrev Cases : CopyOut → Type 0
   Cases =
       Branch ((limit < length w) ⊎ (limit < length base)) (λ l q. q ≡ untouched out too_long_number)
-      ((length w ≤ limit) × (length base ≤ limit)) (Derived URI base (OnBase w base out) (λ q. q ≡ untouched out bad_base))
+      ((length w ≤ limit) × (length base ≤ limit)) (Derived URI base (OnBase w base out) (λ q. q ≡ untouched out bad_base_number))
 
   cases : (q : CopyOut) → Resolve w base out q → Cases q
   cases _ (outcome.too_long l) = this l refl

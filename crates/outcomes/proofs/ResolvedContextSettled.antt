@@ -10,7 +10,7 @@ use Rattle.resolution.specs.Resolve.{unfragmented}
 use Rattle.grammar.specs.Link.{Param}
 use Rattle.tables.specs.Table.{Table}
 use Rattle.tables.specs.Meaning.{value_of}
-use Rattle.outcomes.specs.Number.{limit, too_long_number, no_such_link, bad_base}
+use Rattle.outcomes.specs.Number.{limit, too_long_number, no_such_link_number, bad_base_number}
 use Rattle.outcomes.specs.Usable.{TableIn}
 use Rattle.outcomes.specs.Context.{anchor}
 use Rattle.outcomes.specs.Copy.{CopyOut, untouched}
@@ -31,10 +31,10 @@ module _ (t : Table) (base : List ℕ) (i : ℕ) (out : List ℕ) where
 
   abbrev Cases : CopyOut → Type 0
   Cases =
-      Order t.link_count i (λ q. q ≡ untouched out no_such_link)
+      Order t.link_count i (λ q. q ≡ untouched out no_such_link_number)
       (Derived URI base
       (Branch ((p : Param) × (anchor t i ≡ some p)) (λ p. Anchored p.0) (anchor t i ≡ none) (Fitted out (unfragmented base)))
-      (λ q. q ≡ untouched out bad_base))
+      (λ q. q ≡ untouched out bad_base_number))
 
   cases : (q : CopyOut) → ContextOn t base i out q → Cases q
   cases _ (no_such_link h) = this h refl

@@ -3,7 +3,7 @@ use Prim.Native.Nat.{ℕ}
 use mathlib.Core.Path.{◌≡◌, refl, ap, ◌∙◌}
 use mathlib.Core.List.{List}
 use Rattle.tables.specs.Table.{Table}
-use Rattle.outcomes.specs.Number.{done, not_found}
+use Rattle.outcomes.specs.Number.{done, not_found_number}
 use Rattle.outcomes.specs.Search.{SearchOut, has, Searched, no_link, found}
 use Rattle.outcomes.specs.Laws.{Settled, SearchSettled}
 use Rattle.outcomes.proofs.Cases.{Branch, this, that, only, branch, settled}
@@ -17,7 +17,7 @@ module _ (t : Table) (r : List ℕ) where
   abbrev Cases : SearchOut → Type 0
   Cases =
       Branch ((i : ℕ) × First (has t r) t.link_count i) (λ f q. q ≡ answer done f.0) (None (has t r) t.link_count)
-      (λ q. q ≡ answer not_found 0)
+      (λ q. q ≡ answer not_found_number 0)
 
   cases : (q : SearchOut) → Searched t r q → Cases q
   cases _ (no_link n) = that n refl

@@ -10,7 +10,7 @@ use Rattle.extended.proofs.Exact.{one_text}
 use Rattle.grammar.specs.Link.{Param}
 use Rattle.tables.specs.Table.{Table}
 use Rattle.tables.specs.Meaning.{value_of}
-use Rattle.outcomes.specs.Number.{no_such_link, not_found}
+use Rattle.outcomes.specs.Number.{no_such_link_number, not_found_number}
 use Rattle.outcomes.specs.Kept.{kept}
 use Rattle.outcomes.specs.Copy.{CopyOut, untouched}
 use Rattle.outcomes.specs.Title.{Decoded, Undecoded, Title, decoded, plain, Untitled}
@@ -66,8 +66,8 @@ module _ {t : Table} {i : ℕ} where
 module _ (t : Table) (i : ℕ) (out : List ℕ) where
   abbrev Cases : CopyOut → Type 0
   Cases =
-      Order t.link_count i (λ q. q ≡ untouched out no_such_link)
-      (Branch ((v : List ℕ) × Title t i v) (λ x. Fits out x.0) (Untitled t i) (λ q. q ≡ untouched out not_found))
+      Order t.link_count i (λ q. q ≡ untouched out no_such_link_number)
+      (Branch ((v : List ℕ) × Title t i v) (λ x. Fits out x.0) (Untitled t i) (λ q. q ≡ untouched out not_found_number))
 
   cases : (q : CopyOut) → Titled t i out q → Cases q
   cases _ (no_such_link h) = this h refl

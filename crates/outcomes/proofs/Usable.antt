@@ -11,7 +11,7 @@ use Rattle.tables.specs.Table.{Table}
 use Rattle.tables.specs.Good.{Good}
 use Rattle.tables.proofs.Decide.{good_decided}
 use Rattle.tables.proofs.GoodAlike.{good_alike}
-use Rattle.outcomes.specs.Number.{limit, done, unknown_edition}
+use Rattle.outcomes.specs.Number.{limit, done, unknown_edition_number}
 use Rattle.outcomes.specs.Usable.{Refused, long_text, not_good, Usable, TableIn, refused, usable, OverTable}
 use Rattle.outcomes.specs.Laws.{Settled}
 use Rattle.outcomes.proofs.Cases.{le_or_lt}
@@ -73,4 +73,4 @@ module _ {A : Type 0} {t : Table} {refusal : ℕ → A} {Out : A → Type 0} whe
 
   pub over_any : {n : ℕ} (P : A → Type 0) → ((k : ℕ) → (k ≡ done → ⊥) → P (refusal k)) → ((o : A) → Out o → P o)
       → (o : A) → OverTable n t refusal Out o → P o
-  over_any P r f = in_any P (r unknown_edition (λ q. omega (arith, q))) (table_any P r f)
+  over_any P r f = in_any P (r unknown_edition_number (λ q. omega (arith, q))) (table_any P r f)

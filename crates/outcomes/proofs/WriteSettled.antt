@@ -6,7 +6,7 @@ use mathlib.Core.Logic.{◌⊎◌, ⊎_map}
 use mathlib.Core.List.{List, [], ◌∷◌}
 use lib.ListN.{length}
 use Rattle.tables.specs.Table.{Table}
-use Rattle.outcomes.specs.Number.{limit, too_long_number, no_relation, no_output_room}
+use Rattle.outcomes.specs.Number.{limit, too_long_number, no_relation_number, no_output_room_number}
 use Rattle.outcomes.specs.Copy.{CopyOut, untouched, holding}
 use Rattle.outcomes.specs.Write.{written_form, relations_at, Related, Wrote, no_relation, long_form, no_room, wrote}
 use Rattle.outcomes.specs.Laws.{Settled, WriteSettled}
@@ -28,9 +28,9 @@ module _ (t : Table) (out : List ℕ) where
 
   abbrev Cases : CopyOut → Type 0
   Cases =
-      Branch Unrelated (λ n q. q ≡ untouched out no_relation) (Related t)
+      Branch Unrelated (λ n q. q ≡ untouched out no_relation_number) (Related t)
       (Order (length (written_form t)) limit
-      (Order (length (written_form t)) (length out) (λ q. q ≡ holding out (written_form t)) (λ q. q ≡ untouched out no_output_room))
+      (Order (length (written_form t)) (length out) (λ q. q ≡ holding out (written_form t)) (λ q. q ≡ untouched out no_output_room_number))
       (λ q. q ≡ untouched out too_long_number))
 
   cases : (q : CopyOut) → Wrote t out q → Cases q

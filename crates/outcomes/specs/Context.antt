@@ -5,7 +5,7 @@ use Rattle.std.proofs.Math.Seq.{slice}
 use Rattle.octets.specs.Text.{octets}
 use Rattle.grammar.specs.Link.{Param}
 use Rattle.tables.specs.Table.{Table}
-use Rattle.outcomes.specs.Number.{done, no_such_link}
+use Rattle.outcomes.specs.Number.{done, no_such_link_number}
 use Rattle.outcomes.specs.Usable.{OverTable}
 use Rattle.outcomes.specs.Kept.{kept}
 
@@ -34,7 +34,7 @@ anchor t i = kept t i (octets "anchor")
 -- the table t, if it may be used, the caller's base and link number i
 module _ (t : Table) (base : List ℕ) (i : ℕ) where
   pub data ContextOf : ContextOut → Type 0 where
-    no_such_link : t.link_count ≤ i → ContextOf (nothing no_such_link)
+    no_such_link : t.link_count ≤ i → ContextOf (nothing no_such_link_number)
     anchored : {p : Param} → i < t.link_count → anchor t i ≡ some p
         → ContextOf (record { number = done; source = of_text; start = p.value_from; end = p.value_to })
     unanchored : i < t.link_count → anchor t i ≡ none

@@ -2,7 +2,7 @@
 use Rattle.std.specs.Prelude.{ℕ, ◌+◌, ◌≤◌, ◌<◌, List, ◌++◌, length, drop}
 use Rattle.tables.specs.Table.{Table, param_at, first_of, count_of}
 use Rattle.tables.specs.Meaning.{value_of}
-use Rattle.outcomes.specs.Number.{done, no_output_room, no_such_link, not_found}
+use Rattle.outcomes.specs.Number.{done, no_output_room_number, no_such_link_number, not_found_number}
 use Rattle.outcomes.specs.Usable.{OverTable}
 
 -- the number and the count of octets answered, and what the output buffer holds afterwards
@@ -26,10 +26,10 @@ meant t i j = value_of t.text (param_at t.param_slots (first_of t.link_slots i +
 -- the table t, if it may be used, link number i, index j within that link, and a buffer that holds `out`
 module _ (t : Table) (i j : ℕ) (out : List ℕ) where
   pub data Copied : CopyOut → Type 0 where
-    no_such_link : t.link_count ≤ i → Copied (untouched out no_such_link)
-    no_such_param : i < t.link_count → count_of t.link_slots i ≤ j → Copied (untouched out not_found)
+    no_such_link : t.link_count ≤ i → Copied (untouched out no_such_link_number)
+    no_such_param : i < t.link_count → count_of t.link_slots i ≤ j → Copied (untouched out not_found_number)
     no_room : i < t.link_count → j < count_of t.link_slots i → length out < length (meant t i j)
-        → Copied (untouched out no_output_room)
+        → Copied (untouched out no_output_room_number)
     copied : i < t.link_count → j < count_of t.link_slots i → length (meant t i j) ≤ length out
         → Copied (holding out (meant t i j))
 

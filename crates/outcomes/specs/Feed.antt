@@ -5,7 +5,7 @@ use Rattle.std.specs.Prelude.{ℕ, ◌≤◌, ◌<◌, cond, List, ◌++◌, ltb
 use Rattle.octets.specs.Editions.{further}
 use Rattle.octets.specs.declared.editions.Edition.{Edition}
 use Rattle.grammar.specs.Place.{Begun, Place}
-use Rattle.outcomes.specs.Number.{limit, done, too_long_number, malformed_header, no_output_room}
+use Rattle.outcomes.specs.Number.{limit, done, too_long_number, malformed_header_number, no_output_room_number}
 use Rattle.outcomes.specs.Read.{ReadOut, refused, ReadIn}
 use Rattle.outcomes.specs.InEdition.{InEdition}
 
@@ -31,18 +31,18 @@ gathering h buffer = record { number = done; place = 0; buffer = h ++ drop (leng
 -- behind the octets `fed`, one part more, with a gathering buffer, in the edition e
 module _ (e : Edition) (fed part buffer : List ℕ) where
   pub data FeedIn : FeedOut → Type 0 where
-    small_buffer : length buffer < limit → FeedIn (unstored buffer no_output_room 0)
+    small_buffer : length buffer < limit → FeedIn (unstored buffer no_output_room_number 0)
     too_long : limit ≤ length buffer → limit < length (fed ++ part) → FeedIn (unstored buffer too_long_number 0)
     -- something is wrong with the octets so far: they begin no header, or a target that is closed among them is no reference
     wrong_so_far : {k : ℕ} → limit ≤ length buffer → length (fed ++ part) ≤ limit → (Begun (further e) (fed ++ part) → ⊥)
-        → Place (further e) (fed ++ part) k → FeedIn (unstored buffer malformed_header k)
+        → Place (further e) (fed ++ part) k → FeedIn (unstored buffer malformed_header_number k)
     right_so_far : limit ≤ length buffer → length (fed ++ part) ≤ limit → Begun (further e) (fed ++ part)
         → FeedIn (gathering (fed ++ part) buffer)
 
 -- the end of the octets `fed`, with their gathering buffer and tables that hold L and P, in the edition e
 module _ (e : Edition) (fed buffer L P : List ℕ) where
   pub data FinishIn : ReadOut → Type 0 where
-    no_buffer : length buffer < limit → FinishIn (refused L P no_output_room 0)
+    no_buffer : length buffer < limit → FinishIn (refused L P no_output_room_number 0)
     as_read : {o : ReadOut} → limit ≤ length buffer → ReadIn e fed L P o → FinishIn o
 
 -- both, where the start was asked with the number n of an edition

@@ -6,7 +6,7 @@ use Rattle.octets.specs.declared.editions.Edition.{Edition}
 use Rattle.reference_steps.specs.Machine as judge
 use Rattle.grammar.specs.Place.{Begun, Place}
 use Rattle.grammar.specs.Machine.{gap, run, phase_of, open_at}
-use Rattle.outcomes.specs.Number.{limit, done, too_long_number, malformed_header, no_output_room}
+use Rattle.outcomes.specs.Number.{limit, done, too_long_number, malformed_header_number, no_output_room_number}
 use Rattle.outcomes.specs.InEdition.{InEdition}
 use Rattle.outcomes.specs.Read.{ReadOut, refused, ReadIn}
 use Rattle.outcomes.specs.Feed.{counted, FeedOut, unstored, FeedIn, FinishIn}
@@ -80,16 +80,16 @@ module _ (st : Feeding) (part buffer : List ℕ) where
   -- is told to be no reference, or is stored, and so is what these cases take in braces: the place of the fault in the part, and where
   -- reading stands behind it. Nothing else is free: every fault that is told is remembered.
   pub data AnyFeed : FeedOut → Feeding → Type 0 where
-    small_buffer : length buffer < limit → AnyFeed (unstored buffer no_output_room 0) st
+    small_buffer : length buffer < limit → AnyFeed (unstored buffer no_output_room_number 0) st
     too_long : limit ≤ length buffer → limit < st.total + length part
         → AnyFeed (unstored buffer too_long_number 0) (moved_to st (suc limit) st.place)
     remembered : limit ≤ length buffer → st.total + length part ≤ limit → st.place < st.total
-        → AnyFeed (unstored buffer malformed_header st.place) (moved_to st (st.total + length part) st.place)
+        → AnyFeed (unstored buffer malformed_header_number st.place) (moved_to st (st.total + length part) st.place)
     faulty : {k : ℕ} → limit ≤ length buffer → st.total + length part ≤ limit → st.total ≤ st.place → k < length part
-        → AnyFeed (unstored buffer malformed_header (st.total + k))
+        → AnyFeed (unstored buffer malformed_header_number (st.total + k))
         (moved_to st (st.total + length part) (st.total + k))
     unfit : limit ≤ length buffer → st.total + length part ≤ limit → st.total ≤ st.place → InTarget st.phase → 0 < length part
-        → AnyFeed (unstored buffer malformed_header (start_in st)) (moved_to st (st.total + length part) (start_in st))
+        → AnyFeed (unstored buffer malformed_header_number (start_in st)) (moved_to st (st.total + length part) (start_in st))
     stored : {p a q : ℕ} → limit ≤ length buffer → st.total + length part ≤ limit → st.total ≤ st.place
         → a ≤ st.total + length part
         → AnyFeed
@@ -117,10 +117,10 @@ module _ (st : Feeding) (part buffer : List ℕ) where
 module _ (st : Feeding) (buffer L P : List ℕ) where
   -- What it answers and leaves in the edition e, whatever the state and the buffer are otherwise. Nothing is free.
   pub data AnyFinish (e : Edition) : ReadOut → Type 0 where
-    no_buffer : length buffer < limit → AnyFinish e (refused L P no_output_room 0)
+    no_buffer : length buffer < limit → AnyFinish e (refused L P no_output_room_number 0)
     too_long : limit ≤ length buffer → limit < st.total → AnyFinish e (refused L P too_long_number 0)
     remembered : limit ≤ length buffer → st.total ≤ limit → st.place < st.total
-        → AnyFinish e (refused L P malformed_header st.place)
+        → AnyFinish e (refused L P malformed_header_number st.place)
     reads : {o : ReadOut} → limit ≤ length buffer → st.total ≤ limit → st.total ≤ st.place
         → ReadIn e (take st.total buffer) L P o → AnyFinish e o
 

@@ -4,7 +4,7 @@ use Rattle.octets.specs.Editions.{number_of, NoEdition}
 use Rattle.octets.specs.declared.editions.Edition.{Edition}
 use Rattle.grammar.specs.Records.{link_width, param_width}
 use Rattle.tables.specs.Table.{Table}
-use Rattle.outcomes.specs.Number.{done, malformed_header, unknown_edition}
+use Rattle.outcomes.specs.Number.{done, malformed_header_number, unknown_edition_number}
 use Rattle.outcomes.specs.Read.{ReadOut, refused, Read}
 use Rattle.outcomes.specs.Search.{SearchOut, Search}
 use Rattle.outcomes.specs.Context.{ContextOut, nothing, Context}
@@ -26,7 +26,7 @@ Settled {A} Out = (o : A) × Out o × ((q : A) → Out q → q ≡ o)
 pub record ReadKeeps (L P : List ℕ) (o : ReadOut) : Type 0 where
   pub refused : (o.number ≡ done → ⊥)
       → (o.links ≡ 0) × (o.params ≡ 0) × (o.link_slots ≡ L) × (o.param_slots ≡ P)
-  pub place : (o.number ≡ malformed_header → ⊥) → o.place ≡ 0
+  pub place : (o.number ≡ malformed_header_number → ⊥) → o.place ≡ 0
   pub behind_links : o.number ≡ done → drop (link_width * o.links) o.link_slots ≡ drop (link_width * o.links) L
   pub behind_params : o.number ≡ done → drop (param_width * o.params) o.param_slots ≡ drop (param_width * o.params) P
 
@@ -37,7 +37,7 @@ pub record CopyKeeps (out : List ℕ) (o : CopyOut) : Type 0 where
 -- A feed that is refused leaves the gathering buffer as the feed before did; the place is 0 unless the octets are malformed.
 pub record FeedKeeps (buffer : List ℕ) (o : FeedOut) : Type 0 where
   pub refused : (o.number ≡ done → ⊥) → o.buffer ≡ buffer
-  pub place : (o.number ≡ malformed_header → ⊥) → o.place ≡ 0
+  pub place : (o.number ≡ malformed_header_number → ⊥) → o.place ≡ 0
 
 pub record Refusals : Type 0 where
   pub read : (n : ℕ) (h L P : List ℕ) (o : ReadOut) → Read n h L P o → ReadKeeps L P o
@@ -57,23 +57,23 @@ pub record Refusals : Type 0 where
 -- A number that is no edition's is refused with 10, whatever else is asked: every entry, the finish on a state so started too, answers
 -- and leaves what its refusals do, and a feed on such a state hands it back as it was.
 pub record UnknownRefused : Type 0 where
-  pub read : (n : ℕ) → NoEdition n → (h L P : List ℕ) (o : ReadOut) → Read n h L P o → o ≡ refused L P unknown_edition 0
+  pub read : (n : ℕ) → NoEdition n → (h L P : List ℕ) (o : ReadOut) → Read n h L P o → o ≡ refused L P unknown_edition_number 0
   pub search : (n : ℕ) → NoEdition n → (t : Table) (q : List ℕ) (o : SearchOut) → Search n t q o
-      → o ≡ record { number = unknown_edition; link = 0 }
+      → o ≡ record { number = unknown_edition_number; link = 0 }
   pub context : (n : ℕ) → NoEdition n → (t : Table) (base : List ℕ) (i : ℕ) (o : ContextOut) → Context n t base i o
-      → o ≡ nothing unknown_edition
+      → o ≡ nothing unknown_edition_number
   pub copy : (n : ℕ) → NoEdition n → (t : Table) (i j : ℕ) (out : List ℕ) (o : CopyOut) → Copy n t i j out o
-      → o ≡ untouched out unknown_edition
+      → o ≡ untouched out unknown_edition_number
   pub write : (n : ℕ) → NoEdition n → (t : Table) (out : List ℕ) (o : CopyOut) → Write n t out o
-      → o ≡ untouched out unknown_edition
+      → o ≡ untouched out unknown_edition_number
   pub title : (n : ℕ) → NoEdition n → (t : Table) (i : ℕ) (out : List ℕ) (o : CopyOut) → Titles n t i out o
-      → o ≡ untouched out unknown_edition
+      → o ≡ untouched out unknown_edition_number
   pub resolved_context : (n : ℕ) → NoEdition n → (t : Table) (base : List ℕ) (i : ℕ) (out : List ℕ) (o : CopyOut)
-      → ResolvedContext n t base i out o → o ≡ untouched out unknown_edition
+      → ResolvedContext n t base i out o → o ≡ untouched out unknown_edition_number
   pub feed : (st next : Feeding) → NoEdition st.edition → (part buffer : List ℕ) (o : FeedOut)
-      → Feeds st part buffer o next → (o ≡ unstored buffer unknown_edition 0) × (next ≡ st)
+      → Feeds st part buffer o next → (o ≡ unstored buffer unknown_edition_number 0) × (next ≡ st)
   pub finish : (st : Feeding) → NoEdition st.edition → (buffer L P : List ℕ) (o : ReadOut)
-      → Finishes st buffer L P o → o ≡ refused L P unknown_edition 0
+      → Finishes st buffer L P o → o ≡ refused L P unknown_edition_number 0
 
 abbrev pub ReadSettled : Type 0
 ReadSettled = (n : ℕ) (h L P : List ℕ) → Settled (Read n h L P)

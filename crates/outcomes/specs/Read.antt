@@ -6,7 +6,7 @@ use Rattle.grammar.specs.Link.{Link}
 use Rattle.grammar.specs.Kept.{Reading}
 use Rattle.grammar.specs.Records.{link_width, param_width, link_room_of, param_room_of, count_params, link_records, param_records}
 use Rattle.grammar.specs.Place.{MalformedAt}
-use Rattle.outcomes.specs.Number.{limit, done, too_long_number, malformed_header, no_link_room, no_param_room}
+use Rattle.outcomes.specs.Number.{limit, done, too_long_number, malformed_header_number, no_link_room_number, no_param_room_number}
 use Rattle.outcomes.specs.InEdition.{InEdition}
 
 -- the four numbers answered, and what both tables hold afterwards
@@ -38,11 +38,11 @@ filled h L P K =
 module _ (e : Edition) (h L P : List ℕ) where
   pub data ReadIn : ReadOut → Type 0 where
     too_long : limit < length h → ReadIn (refused L P too_long_number 0)
-    not_derived : {k : ℕ} → length h ≤ limit → MalformedAt (further e) h k → ReadIn (refused L P malformed_header k)
+    not_derived : {k : ℕ} → length h ≤ limit → MalformedAt (further e) h k → ReadIn (refused L P malformed_header_number k)
     no_link_room : {K : List Link} → length h ≤ limit → Reading (further e) h K → link_room_of L < length K
-        → ReadIn (refused L P no_link_room 0)
+        → ReadIn (refused L P no_link_room_number 0)
     no_param_room : {K : List Link} → length h ≤ limit → Reading (further e) h K → length K ≤ link_room_of L
-        → param_room_of P < count_params K → ReadIn (refused L P no_param_room 0)
+        → param_room_of P < count_params K → ReadIn (refused L P no_param_room_number 0)
     reads : {K : List Link} → length h ≤ limit → Reading (further e) h K → length K ≤ link_room_of L → count_params K ≤ param_room_of P
         → ReadIn (filled h L P K)
 

@@ -9,7 +9,7 @@ use Rattle.resolution.specs.Resolve.{resolved, unfragmented}
 use Rattle.grammar.specs.Link.{Param}
 use Rattle.tables.specs.Table.{Table}
 use Rattle.tables.specs.Meaning.{value_of}
-use Rattle.outcomes.specs.Number.{limit, too_long_number, no_such_link, bad_base, bad_reference}
+use Rattle.outcomes.specs.Number.{limit, too_long_number, no_such_link_number, bad_base_number, bad_reference_number}
 use Rattle.outcomes.specs.InEdition.{InEdition}
 use Rattle.outcomes.specs.Usable.{TableIn}
 use Rattle.outcomes.specs.Context.{anchor}
@@ -19,10 +19,10 @@ use Rattle.outcomes.specs.Resolve.{Fitted}
 -- the table t, if it may be used, the caller's base, link number i, and a buffer that holds `out`
 module _ (t : Table) (base : List ℕ) (i : ℕ) (out : List ℕ) where
   pub data ContextOn : CopyOut → Type 0 where
-    no_such_link : t.link_count ≤ i → ContextOn (untouched out no_such_link)
-    bad_base : i < t.link_count → (IsURI base → ⊥) → ContextOn (untouched out bad_base)
+    no_such_link : t.link_count ≤ i → ContextOn (untouched out no_such_link_number)
+    bad_base : i < t.link_count → (IsURI base → ⊥) → ContextOn (untouched out bad_base_number)
     bad_reference : {p : Param} → i < t.link_count → IsURI base → anchor t i ≡ some p → (IsReference (value_of t.text p) → ⊥)
-        → ContextOn (untouched out bad_reference)
+        → ContextOn (untouched out bad_reference_number)
     anchored : {p : Param} {o : CopyOut} → i < t.link_count → IsURI base → anchor t i ≡ some p → IsReference (value_of t.text p)
         → Fitted out (resolved base (value_of t.text p)) o → ContextOn o
     unanchored : {o : CopyOut} → i < t.link_count → IsURI base → anchor t i ≡ none → Fitted out (unfragmented base) o → ContextOn o

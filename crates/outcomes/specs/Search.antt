@@ -2,7 +2,7 @@
 use Rattle.std.specs.Prelude.{ℕ, ◌<◌, ◌≡◌, Bool, true, false, List}
 use Rattle.tables.specs.Table.{Table, link_at}
 use Rattle.tables.specs.Relation.{has_relation}
-use Rattle.outcomes.specs.Number.{done, not_found}
+use Rattle.outcomes.specs.Number.{done, not_found_number}
 use Rattle.outcomes.specs.Usable.{OverTable}
 
 pub record SearchOut : Type 0 where
@@ -16,7 +16,7 @@ module _ (t : Table) (q : List ℕ) where
   has i = has_relation t.text q (link_at t.link_slots t.param_slots i)
 
   pub data Searched : SearchOut → Type 0 where
-    no_link : ((i : ℕ) → i < t.link_count → has i ≡ false) → Searched (record { number = not_found; link = 0 })
+    no_link : ((i : ℕ) → i < t.link_count → has i ≡ false) → Searched (record { number = not_found_number; link = 0 })
     -- the lowest link number that has it
     found : {i : ℕ} → i < t.link_count → has i ≡ true → ((j : ℕ) → j < i → has j ≡ false)
         → Searched (record { number = done; link = i })

@@ -7,7 +7,7 @@ use Rattle.extended.specs.Value.{Extended}
 use Rattle.grammar.specs.Link.{Param}
 use Rattle.tables.specs.Table.{Table}
 use Rattle.tables.specs.Meaning.{value_of}
-use Rattle.outcomes.specs.Number.{no_output_room, no_such_link, not_found}
+use Rattle.outcomes.specs.Number.{no_output_room_number, no_such_link_number, not_found_number}
 use Rattle.outcomes.specs.Usable.{OverTable}
 use Rattle.outcomes.specs.Kept.{kept}
 use Rattle.outcomes.specs.Copy.{CopyOut, untouched, holding}
@@ -38,10 +38,10 @@ module _ (t : Table) (i : ℕ) where
 -- the table t, if it may be used, link number i, and a buffer that holds `out`
 module _ (t : Table) (i : ℕ) (out : List ℕ) where
   pub data Titled : CopyOut → Type 0 where
-    no_such_link : t.link_count ≤ i → Titled (untouched out no_such_link)
-    untitled : i < t.link_count → Untitled t i → Titled (untouched out not_found)
+    no_such_link : t.link_count ≤ i → Titled (untouched out no_such_link_number)
+    untitled : i < t.link_count → Untitled t i → Titled (untouched out not_found_number)
     -- a right `title*` that doesn't fit is refused, whatever `title` is
-    no_room : {v : List ℕ} → i < t.link_count → Title t i v → length out < length v → Titled (untouched out no_output_room)
+    no_room : {v : List ℕ} → i < t.link_count → Title t i v → length out < length v → Titled (untouched out no_output_room_number)
     titled : {v : List ℕ} → i < t.link_count → Title t i v → length v ≤ length out → Titled (holding out v)
 
 -- asked with the number n of an edition

@@ -4,14 +4,14 @@ use Rattle.octets.specs.Editions.{further}
 use Rattle.octets.specs.declared.editions.Edition.{Edition}
 use Rattle.tables.specs.Table.{Table}
 use Rattle.tables.specs.Good.{Good}
-use Rattle.outcomes.specs.Number.{limit, too_long_number, bad_table}
+use Rattle.outcomes.specs.Number.{limit, too_long_number, bad_table_number}
 use Rattle.outcomes.specs.InEdition.{InEdition}
 
 module _ (e : Edition) (t : Table) where
   -- the table is refused with the number n
   pub data Refused : ℕ → Type 0 where
     long_text : limit < length t.text → Refused too_long_number
-    not_good : length t.text ≤ limit → (Good (further e) t → ⊥) → Refused bad_table
+    not_good : length t.text ≤ limit → (Good (further e) t → ⊥) → Refused bad_table_number
 
   pub record Usable : Type 0 where
     pub short : length t.text ≤ limit

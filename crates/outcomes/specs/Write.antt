@@ -4,7 +4,7 @@ use Rattle.tables.specs.Table.{Table, link_at}
 use Rattle.tables.specs.Meaning.{table_meanings}
 use Rattle.tables.specs.Relation.{relations}
 use Rattle.tables.specs.Written.{written}
-use Rattle.outcomes.specs.Number.{limit, too_long_number, no_relation, no_output_room}
+use Rattle.outcomes.specs.Number.{limit, too_long_number, no_relation_number, no_output_room_number}
 use Rattle.outcomes.specs.Usable.{OverTable}
 use Rattle.outcomes.specs.Copy.{CopyOut, untouched, holding}
 
@@ -23,10 +23,10 @@ Related t = (i : ℕ) → i < t.link_count → relations_at t i ≡ [] → ⊥
 -- the table t, if it may be used, and a buffer that holds `out`
 module _ (t : Table) (out : List ℕ) where
   pub data Wrote : CopyOut → Type 0 where
-    no_relation : {i : ℕ} → i < t.link_count → relations_at t i ≡ [] → Wrote (untouched out no_relation)
+    no_relation : {i : ℕ} → i < t.link_count → relations_at t i ≡ [] → Wrote (untouched out no_relation_number)
     long_form : Related t → limit < length (written_form t) → Wrote (untouched out too_long_number)
     no_room : Related t → length (written_form t) ≤ limit → length out < length (written_form t)
-        → Wrote (untouched out no_output_room)
+        → Wrote (untouched out no_output_room_number)
     wrote : Related t → length (written_form t) ≤ limit → length (written_form t) ≤ length out
         → Wrote (holding out (written_form t))
 

@@ -1,5 +1,7 @@
 // Where the packs of a catalogue stand in it, and which of them has a URI. An index has three numbers for each pack: where its URI begins,
 // where the tab behind that stands, and where its Link value ends, at the LF.
+#![tactic(auto)]
+
 ghost use Rattle.std.specs.Prelude.{◌≡◌, true, ◌+◌, ◌*◌, ◌≤◌, ◌<◌, length};
 ghost use Rattle.std.proofs.lemmas.List.Edits.{sets};
 ghost use Rattle.octets.specs.Fold.{same};

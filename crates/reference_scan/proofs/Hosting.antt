@@ -36,22 +36,22 @@ hosted_octets =
     (one_octets 63 (omega arith)))
     (one_octets 95 (omega arith))
 
-in_host : (c : ℕ) → is_hosted c ≡ true → step 6 c ≡ behind (stays true c)
+in_host_lem : (c : ℕ) → is_hosted c ≡ true → step 6 c ≡ behind (stays true c)
 unfolding step
-in_host c h =
+in_host_lem c h =
     eqb-true (step 6 c) (behind (stays true c)) (within is_hosted (λ k. eqb (step 6 k) (behind (stays true k))) hosted_octets refl c h)
 
-in_path : (c : ℕ) → is_hosted c ≡ true → step 13 c ≡ 13
+in_path_lem : (c : ℕ) → is_hosted c ≡ true → step 13 c ≡ 13
 unfolding step
-in_path c h = eqb-true (step 13 c) 13 (within is_hosted (λ k. eqb (step 13 k) 13) hosted_octets refl c h)
+in_path_lem c h = eqb-true (step 13 c) 13 (within is_hosted (λ k. eqb (step 13 k) 13) hosted_octets refl c h)
 
 at_slashes : (c : ℕ) → is_hosted c ≡ true → step 5 c ≡ step 6 c
 unfolding step
 at_slashes c h = eqb-true (step 5 c) (step 6 c) (within is_hosted (λ k. eqb (step 5 k) (step 6 k)) hosted_octets refl c h)
 
 hosted_step : (host : Bool) (c : ℕ) → is_hosted c ≡ true → behind (stays host c) ≡ step (behind host) c
-hosted_step true c h = sym (in_host c h)
-hosted_step false c h = sym (in_path c h)
+hosted_step true c h = sym (in_host_lem c h)
+hosted_step false c h = sym (in_path_lem c h)
 
 alive : (host : Bool) → behind host ≡ 54 → ⊥
 alive true e = omega arith

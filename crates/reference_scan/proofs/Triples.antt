@@ -26,9 +26,9 @@ module _ (s : List ℕ) (i : ℕ) (h : i + 3 ≤ length s)
       (comes_then (octet s (i + 1) (i + 2) p r (get_or s (i + 1) 0) (omega arith) (omega arith) refl (y _ b.1) m)
       (octet s (i + 2) (i + 3) r q (get_or s (i + 2) 0) (omega arith) (omega arith) refl (z _ d.1) n))
 
-  in_path : Comes s i 13 (i + 3) 13
+  in_path_lem : Comes s i 13 (i + 3) 13
   unfolding step is_hex is_digit
-  in_path = around 13 29 45 refl (λ c h. rw h) (λ c h. rw h) (λ e. omega arith) (λ e. omega arith) (λ e. omega arith)
+  in_path_lem = around 13 29 45 refl (λ c h. rw h) (λ c h. rw h) (λ e. omega arith) (λ e. omega arith) (λ e. omega arith)
 
   in_fragment : Comes s i 15 (i + 3) 15
   unfolding step is_hex is_digit
@@ -38,5 +38,5 @@ module _ (s : List ℕ) (i : ℕ) (h : i + 3 ≤ length s)
   triple q w = side (eqb q 13) refl w
     where
       side : (t : Bool) → eqb q 13 ≡ t → (t || eqb q 15) ≡ true → Comes s i q (i + 3) q
-      side true e w = rw (eqb-true q 13 e) in_path
+      side true e w = rw (eqb-true q 13 e) in_path_lem
       side false e w = rw (eqb-true q 15 w) in_fragment

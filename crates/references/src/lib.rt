@@ -1,5 +1,7 @@
 // RFC 3986's references: laws of their grammar and their components, held by the gate. Each function promises one statement of specs/
 // and does nothing.
+#![tactic(auto)]
+
 ghost use Rattle.rules.specs.Laws.{MatchesExact};
 ghost use Rattle.references.specs.Octets.{Octets};
 ghost use Rattle.references.specs.Laws.{ReferenceSplits, URISplits, AbsoluteSplits, NothingLost};

@@ -1,5 +1,7 @@
 // RFC 3986's resolution of references: laws of its definitions, held by the gate. Each function promises one statement of specs/ and does
 // nothing.
+#![tactic(auto)]
+
 ghost use Rattle.resolution.specs.Laws.{CannotClimb, DotsRemoved, ItselfResolved, OneResult, FromTheRight};
 ghost use Rattle.resolution.specs.Examples.{ExamplesHold};
 

@@ -4,7 +4,7 @@ use Rattle.octets.specs.Editions.{number_of}
 use Rattle.octets.specs.declared.editions.Edition.{Edition}
 use Rattle.references.specs.AppendixA.{IsReference}
 use Rattle.resolution.specs.Resolve.{resolved}
-use Rattle.outcomes.specs.Number.{too_long_number, bad_reference}
+use Rattle.outcomes.specs.Number.{too_long_number, bad_reference_number}
 use Rattle.outcomes.specs.Copy.{CopyOut, untouched}
 use Rattle.outcomes.specs.InEdition.{InEdition}
 use Rattle.outcomes.specs.Resolve.{Fitted}
@@ -13,7 +13,7 @@ use Rattle.answers.specs.declared.Refusal.{Refusal}
 
 -- the text w, and a buffer that holds `out`
 pub data OnBase (base w out : List ℕ) : CopyOut → Type 0 where
-  wrong : (IsReference w → ⊥) → OnBase base w out (untouched out bad_reference)
+  wrong : (IsReference w → ⊥) → OnBase base w out (untouched out bad_reference_number)
   right : {o : CopyOut} → IsReference w → Fitted out (resolved base w) o → OnBase base w out o
 
 -- too long, asked with the number n of an edition

@@ -6,7 +6,7 @@ use mathlib.Core.List.{List, ◌++◌}
 use lib.ListN.{length, drop}
 use Rattle.kinds.specs.Put.{Put}
 use Rattle.kinds.proofs.Stores.{sets_front}
-use Rattle.outcomes.specs.Number.{limit, too_long_number, no_output_room, done}
+use Rattle.outcomes.specs.Number.{limit, too_long_number, no_output_room_number, done}
 use Rattle.outcomes.specs.Copy.{untouched}
 use Rattle.outcomes.specs.Resolve.{Fitted, too_long, no_room, fits}
 
@@ -18,7 +18,7 @@ module _ (old v laid : List ℕ) (n : ℕ) (e : v ≡ laid) (m : n ≡ length la
   pub over : limit < n → Fitted old v (untouched old too_long_number)
   over h = too_long (omega (arith, h, measured))
 
-  pub cramped : n ≤ limit → length old < n → Fitted old v (untouched old no_output_room)
+  pub cramped : n ≤ limit → length old < n → Fitted old v (untouched old no_output_room_number)
   cramped h k = no_room (omega (arith, h, measured)) (omega (arith, k, measured))
 
   pub written : {new : List ℕ} → n ≤ limit → n ≤ length old → Put old new 0 n laid

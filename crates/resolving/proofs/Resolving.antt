@@ -8,7 +8,7 @@ use lib.Seq.{slice, take-length}
 use Rattle.references.proofs.Clear.{Free}
 use Rattle.resolution.specs.Resolve.{resolved}
 use Rattle.reference_steps.specs.Machine.{run, accepts}
-use Rattle.outcomes.specs.Number.{limit, bad_base, bad_reference}
+use Rattle.outcomes.specs.Number.{limit, bad_base_number, bad_reference_number}
 use Rattle.outcomes.specs.Copy.{CopyOut, untouched}
 use Rattle.outcomes.specs.Resolve.{Fitted, Resolve, bad_base, bad_reference, resolves}
 use Rattle.bare.specs.Bare.{bare, bare_of}
@@ -24,10 +24,10 @@ module _ (w base out : List ℕ) (h : length w ≤ limit) (k : length base ≤ l
   judged : r ≡ accepts (run 0 w)
   judged = f ∙ ap (λ (x : List ℕ). accepts (run 0 x)) (whole w)
 
-  pub wrong_base : b ≡ false → Resolve w base out (untouched out bad_base)
+  pub wrong_base : b ≡ false → Resolve w base out (untouched out bad_base_number)
   wrong_base n = bad_base h k (uri_denied b e n)
 
-  pub wrong_reference : b ≡ true → r ≡ false → Resolve w base out (untouched out bad_reference)
+  pub wrong_reference : b ≡ true → r ≡ false → Resolve w base out (untouched out bad_reference_number)
   wrong_reference y n = bad_reference h k (uri_told b e y) (reference_denied r judged n)
 
   pub base_free : b ≡ true → Free (92 ∷ []) base

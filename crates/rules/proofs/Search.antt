@@ -114,55 +114,55 @@ among_map f [] x a = absurd a
 among_map f (y ∷ xs) x (inl e) = inl (ap f e)
 among_map f (y ∷ xs) x (inr a) = inr (among_map f xs x a)
 
-module _ {S : Type 0} (same_set : S → S → Bool) (same_set : (f g : S) → same_set f g ≡ true → f ≡ g) where
-  pub same_rule : (r q : Rule S) → same_rule same_set r q ≡ true → r ≡ q
-  same_rule nothing nothing e = refl
-  same_rule nothing (one f') e = absurd (false≢true e)
-  same_rule nothing (a' then b') e = absurd (false≢true e)
-  same_rule nothing (a' or b') e = absurd (false≢true e)
-  same_rule nothing (many a') e = absurd (false≢true e)
-  same_rule (one f) nothing e = absurd (false≢true e)
-  same_rule (one f) (one f') e = ap one (same_set f f' e)
-  same_rule (one f) (a' then b') e = absurd (false≢true e)
-  same_rule (one f) (a' or b') e = absurd (false≢true e)
-  same_rule (one f) (many a') e = absurd (false≢true e)
-  same_rule (a then b) nothing e = absurd (false≢true e)
-  same_rule (a then b) (one f') e = absurd (false≢true e)
-  same_rule (a then b) (a' then b') e =
-      let p = both (same_rule same_set a a') (same_rule same_set b b') e in rw (same_rule a a' p.0, same_rule b b' p.1)
-  same_rule (a then b) (a' or b') e = absurd (false≢true e)
-  same_rule (a then b) (many a') e = absurd (false≢true e)
-  same_rule (a or b) nothing e = absurd (false≢true e)
-  same_rule (a or b) (one f') e = absurd (false≢true e)
-  same_rule (a or b) (a' then b') e = absurd (false≢true e)
-  same_rule (a or b) (a' or b') e =
-      let p = both (same_rule same_set a a') (same_rule same_set b b') e in rw (same_rule a a' p.0, same_rule b b' p.1)
-  same_rule (a or b) (many a') e = absurd (false≢true e)
-  same_rule (many a) nothing e = absurd (false≢true e)
-  same_rule (many a) (one f') e = absurd (false≢true e)
-  same_rule (many a) (a' then b') e = absurd (false≢true e)
-  same_rule (many a) (a' or b') e = absurd (false≢true e)
-  same_rule (many a) (many a') e = ap many (same_rule a a' e)
+module _ {S : Type 0} (same_set : S → S → Bool) (same_set_lem : (f g : S) → same_set f g ≡ true → f ≡ g) where
+  pub same_rule_lem : (r q : Rule S) → same_rule same_set r q ≡ true → r ≡ q
+  same_rule_lem nothing nothing e = refl
+  same_rule_lem nothing (one f') e = absurd (false≢true e)
+  same_rule_lem nothing (a' then b') e = absurd (false≢true e)
+  same_rule_lem nothing (a' or b') e = absurd (false≢true e)
+  same_rule_lem nothing (many a') e = absurd (false≢true e)
+  same_rule_lem (one f) nothing e = absurd (false≢true e)
+  same_rule_lem (one f) (one f') e = ap one (same_set_lem f f' e)
+  same_rule_lem (one f) (a' then b') e = absurd (false≢true e)
+  same_rule_lem (one f) (a' or b') e = absurd (false≢true e)
+  same_rule_lem (one f) (many a') e = absurd (false≢true e)
+  same_rule_lem (a then b) nothing e = absurd (false≢true e)
+  same_rule_lem (a then b) (one f') e = absurd (false≢true e)
+  same_rule_lem (a then b) (a' then b') e =
+      let p = both (same_rule same_set a a') (same_rule same_set b b') e in rw (same_rule_lem a a' p.0, same_rule_lem b b' p.1)
+  same_rule_lem (a then b) (a' or b') e = absurd (false≢true e)
+  same_rule_lem (a then b) (many a') e = absurd (false≢true e)
+  same_rule_lem (a or b) nothing e = absurd (false≢true e)
+  same_rule_lem (a or b) (one f') e = absurd (false≢true e)
+  same_rule_lem (a or b) (a' then b') e = absurd (false≢true e)
+  same_rule_lem (a or b) (a' or b') e =
+      let p = both (same_rule same_set a a') (same_rule same_set b b') e in rw (same_rule_lem a a' p.0, same_rule_lem b b' p.1)
+  same_rule_lem (a or b) (many a') e = absurd (false≢true e)
+  same_rule_lem (many a) nothing e = absurd (false≢true e)
+  same_rule_lem (many a) (one f') e = absurd (false≢true e)
+  same_rule_lem (many a) (a' then b') e = absurd (false≢true e)
+  same_rule_lem (many a) (a' or b') e = absurd (false≢true e)
+  same_rule_lem (many a) (many a') e = ap many (same_rule_lem a a' e)
 
-  same_rules : (rs qs : List (Rule S)) → same_rules same_set rs qs ≡ true → rs ≡ qs
-  same_rules [] [] e = refl
-  same_rules [] (q ∷ qs) e = absurd (false≢true e)
-  same_rules (r ∷ rs) [] e = absurd (false≢true e)
-  same_rules (r ∷ rs) (q ∷ qs) e =
-      let p = both (same_rule same_set r q) (same_rules same_set rs qs) e in rw (same_rule r q p.0, same_rules rs qs p.1)
+  same_rules_lem : (rs qs : List (Rule S)) → same_rules same_set rs qs ≡ true → rs ≡ qs
+  same_rules_lem [] [] e = refl
+  same_rules_lem [] (q ∷ qs) e = absurd (false≢true e)
+  same_rules_lem (r ∷ rs) [] e = absurd (false≢true e)
+  same_rules_lem (r ∷ rs) (q ∷ qs) e =
+      let p = both (same_rule same_set r q) (same_rules same_set rs qs) e in rw (same_rule_lem r q p.0, same_rules_lem rs qs p.1)
 
-  same_pair : (p q : Pair S) → same_pair same_set p q ≡ true → p ≡ q
-  same_pair p q e =
+  same_pair_lem : (p q : Pair S) → same_pair same_set p q ≡ true → p ≡ q
+  same_pair_lem p q e =
       let b = both (eqb p.state q.state) (same_rules same_set p.rules q.rules) e in
       λ i.
-      record { state = eqb-true p.state q.state b.0 i; rules = same_rules p.rules q.rules b.1 i }
+      record { state = eqb-true p.state q.state b.0 i; rules = same_rules_lem p.rules q.rules b.1 i }
 
   seen_among : (p : Pair S) (qs : List (Pair S)) → seen_in same_set p qs ≡ true → Among p qs
   seen_among p [] e = absurd (false≢true e)
   seen_among p (q ∷ qs) e =
-      ⊎_elim (λ h. inl (same_pair p q h)) (λ h. inr (seen_among p qs h)) (either (same_pair same_set p q) (seen_in same_set p qs) e)
+      ⊎_elim (λ h. inl (same_pair_lem p q h)) (λ h. inr (seen_among p qs h)) (either (same_pair same_set p q) (seen_in same_set p qs) e)
 
-module _ {S : Type 0} (has : S → ℕ → Bool) (same_set : S → S → Bool) (same_set : (f g : S) → same_set f g ≡ true → f ≡ g)
+module _ {S : Type 0} (has : S → ℕ → Bool) (same_set : S → S → Bool) (same_set_lem : (f g : S) → same_set f g ≡ true → f ≡ g)
     (step : ℕ → ℕ → ℕ) (accepts : ℕ → Bool) (samples : List ℕ) (known : Pair S) where
   -- ---- what the search has shown
 
@@ -215,8 +215,8 @@ module _ {S : Type 0} (has : S → ℕ → Bool) (same_set : S → S → Bool) (
                 ⊎_elim
                 (λ q.
                 subst (Inside c.all) (sym q)
-                (⊎_elim (λ h. inl (same_pair same_set same_set p known h))
-                (λ h. inr (c.holds_seen p (seen_among same_set same_set p seen h)))
+                (⊎_elim (λ h. inl (same_pair_lem same_set same_set_lem p known h))
+                (λ h. inr (c.holds_seen p (seen_among same_set same_set_lem p seen h)))
                 (either (same_pair same_set p known) (seen_in same_set p seen) b)))
                 (λ m. c.holds_todo x m) a;
             goes = c.goes;

@@ -1,4 +1,6 @@
 // Rules as ABNF writes them, and the law of trying them octet by octet, held by the gate.
+#![tactic(auto)]
+
 ghost use Rattle.std.specs.Prelude.{ℕ};
 ghost use Rattle.rules.specs.Laws.{MatchesExact};
 

@@ -54,12 +54,12 @@ module _ (n c : ℕ) (e : n ≡ leading_ones c) (h : c < 256) where
   of_none z = sym (rw z refl) ∙ told
 
   module _ (z : n ≡ 0 → ⊥) where
-    pub of_two : (eqb n 2 && leb 0xC2 c) ≡ true → tails 1 ≡ behind_first c
-    of_two t = sym (rw (ne_eqb n 0 z, t) refl) ∙ told
+    pub of_two_lem : (eqb n 2 && leb 0xC2 c) ≡ true → tails 1 ≡ behind_first c
+    of_two_lem t = sym (rw (ne_eqb n 0 z, t) refl) ∙ told
 
     module _ (t : (eqb n 2 && leb 0xC2 c) ≡ false) where
-      pub of_three : n ≡ 3 → awaits 2 (cond (eqb c 0xE0) 0xA0 0x80) (cond (eqb c 0xED) 0x9F 0xBF) ≡ behind_first c
-      of_three k = sym (rw (ne_eqb n 0 z, t, eq-eqb n 3 k) refl) ∙ told
+      pub of_three_lem : n ≡ 3 → awaits 2 (cond (eqb c 0xE0) 0xA0 0x80) (cond (eqb c 0xED) 0x9F 0xBF) ≡ behind_first c
+      of_three_lem k = sym (rw (ne_eqb n 0 z, t, eq-eqb n 3 k) refl) ∙ told
 
       module _ (k : n ≡ 3 → ⊥) where
         pub of_four : (eqb n 4 && leb c 0xF4) ≡ true

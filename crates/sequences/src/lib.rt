@@ -1,4 +1,6 @@
 // UTF-8 judged one octet at a time.
+#![tactic(auto)]
+
 ghost use Rattle.std.specs.Prelude.{◌≡◌, cond};
 ghost use Rattle.sequences.specs.Ones.{leading_ones};
 ghost use Rattle.sequences.specs.Awaited.{tails, nothing, impossible, behind_first, behind};

@@ -32,8 +32,8 @@ whole_run s P first count = let e : first + count - first ≡ count = omega arit
 
 -- ---- links from number i up to n
 
-link_of : {L : List ℕ} (P : List ℕ) {i : ℕ} {r : LinkRecord} → IsLink L i r → link_at L P i ≡ to_link P r
-link_of P is = rw (is.from, is.to, is.first, is.count)
+link_of_lem : {L : List ℕ} (P : List ℕ) {i : ℕ} {r : LinkRecord} → IsLink L i r → link_at L P i ≡ to_link P r
+link_of_lem P is = rw (is.from, is.to, is.first, is.count)
 
 module _ (s L P : List ℕ) (n : ℕ) {i : ℕ} where
   pub links_end : n ≤ i → links_left s L P n i ≡ []
@@ -44,7 +44,7 @@ module _ (s L P : List ℕ) (n : ℕ) {i : ℕ} where
   links_next l is =
       let e : n - i ≡ suc (n - suc i) = omega arith in
       let z : eqb (suc i) 0 ≡ false = ne_eqb (suc i) 0 (λ q. omega arith) in
-      rw (e, z) (ap (λ (x : Link). parting (eqb i 0) ++ (link_form s x ++ links_form s false (links_from L P (suc i) (n - suc i)))) (link_of P is))
+      rw (e, z) (ap (λ (x : Link). parting (eqb i 0) ++ (link_form s x ++ links_form s false (links_from L P (suc i) (n - suc i)))) (link_of_lem P is))
 
 -- what parts two links is before the second, or behind the first
 form_written : (s : List ℕ) (ls : List Link) → links_form s true ls ≡ written (meanings s ls)

@@ -12,7 +12,7 @@ use Rattle.octets.specs.Sets.{is_target, is_hex, is_letter, is_digit}
 use Rattle.octets.proofs.Octets.{within, both}
 use Rattle.rules.specs.Rule.{Rule, nothing, one, ◌then◌, ◌or◌, many, Many, no_more, and_one, Derives}
 use Rattle.rules.proofs.Lefts.{either}
-use Rattle.rules.proofs.Search.{same_rule, same_rule}
+use Rattle.rules.proofs.Search.{same_rule, same_rule_lem}
 use Rattle.references.specs.Octets.{Octets, has}
 use Rattle.references.specs.Octets.{ALPHA, DIGIT, HEXDIG, unreserved, sub_delims, colon, slash, question, hash, bracket, end_bracket, at}
 use Rattle.references.specs.Octets.{percent, dot, plus, hyphen, vee, from_1_to_9, from_0_to_4, from_0_to_5, digit_1, digit_2, digit_5}
@@ -109,7 +109,7 @@ derived_text (a then b) e w d = go (either (same_rule same_set (a then b) pct_en
         → (in_units a ≡ true → (u : List ℕ) → Derives has a u → TargetText u)
         → (in_units b ≡ true → (u : List ℕ) → Derives has b u → TargetText u) → TargetText w
     go (inl h) f g =
-        triple_text w (subst (λ (r : Rule Octets). Derives has r w) (same_rule same_set same_set_lem (a then b) pct_encoded h) d)
+        triple_text w (subst (λ (r : Rule Octets). Derives has r w) (same_rule_lem same_set same_set_lem (a then b) pct_encoded h) d)
     go (inr h) f g =
         let p = both (in_units a) (in_units b) h in
         subst TargetText (sym d.whole) (text_append (f p.0 d.left d.first) (g p.1 d.right d.second))

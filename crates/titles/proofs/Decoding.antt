@@ -8,7 +8,7 @@ use lib.ListN.{length}
 use lib.Seq.{take_all}
 use Rattle.extended.specs.Value.{Extended, Wrong}
 use Rattle.extended.specs.Decoded.{given}
-use Rattle.outcomes.specs.Number.{limit, bad_extended}
+use Rattle.outcomes.specs.Number.{limit, bad_extended_number}
 use Rattle.outcomes.specs.Copy.{CopyOut, untouched}
 use Rattle.outcomes.specs.Decode.{Decode, wrong, no_room, gives}
 use Rattle.units.specs.Seen.{seen}
@@ -22,7 +22,7 @@ module _ (w : List ℕ) (h : length w ≤ limit) where
   whole : seen false w (length w) 0 ≡ w
   whole = take_all (length w) w (omega arith)
 
-  pub is_wrong : (out : List ℕ) → IsWrong false w (length w) 0 → Decode w out (untouched out bad_extended)
+  pub is_wrong : (out : List ℕ) → IsWrong false w (length w) 0 → Decode w out (untouched out bad_extended_number)
   is_wrong out b = wrong h (subst Wrong whole b.wrong)
 
   pub is_given_lem : {k n : ℕ} → IsRight false w (length w) 0 k n → {out : List ℕ} {o : CopyOut}

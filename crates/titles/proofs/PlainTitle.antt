@@ -11,7 +11,7 @@ use Rattle.records.specs.declared.ParamParts.{ParamParts}
 use Rattle.tables.specs.Good.{InText, GoodParam}
 use Rattle.tables.specs.Relation.{named}
 use Rattle.tables.proofs.InGood.{named_each}
-use Rattle.outcomes.specs.Number.{not_found}
+use Rattle.outcomes.specs.Number.{not_found_number}
 use Rattle.outcomes.specs.Copy.{CopyOut, untouched}
 use Rattle.named.specs.First.{Listed, FirstCoded, found}
 use Rattle.named.specs.declared.Named.{Named}
@@ -27,7 +27,7 @@ module _ {s P : List ℕ} {l : LinkRecord} (h : Listed s P l) (a : Named) (first
   title_found : named s (octets "title") (to_link P l).params ≡ found a
   title_found = by_title s P h ∙ first
 
-  pub no_plain : (out : List ℕ) → a ≡ Absent → Plain s P l out (untouched out not_found)
+  pub no_plain : (out : List ℕ) → a ≡ Absent → Plain s P l out (untouched out not_found_number)
   no_plain out e = no_title (title_found ∙ ap found e)
 
   module _ {p : ParamParts} (e : a ≡ Found p) where

@@ -1,4 +1,6 @@
 // UTF-8 by RFC 3629: laws of its definition, held by the gate. Each function promises one statement of specs/ and does nothing.
+#![tactic(auto)]
+
 ghost use Rattle.rules.specs.Laws.{MatchesExact};
 ghost use Rattle.utf8.specs.Sequences.{Range};
 ghost use Rattle.utf8.specs.Laws.{EncodesNumbers};

@@ -23,9 +23,9 @@ module _ {text old new : List ℕ} {to : ℕ} {r : WalkAnswer} where
 
   -- the URI is a part of the text
   module _ {e : End} {p : PackNumber} {n : ℕ} (known : r ≡ Ended e p n) where
-    pub ended_line : (a b : ℕ) → UriPart text p.0 a b → Put old new 0 to (ended_line (end_of e) p.0 (take (b - a) (drop a text)) n)
+    pub ended_line_lem : (a b : ℕ) → UriPart text p.0 a b → Put old new 0 to (ended_line (end_of e) p.0 (take (b - a) (drop a text)) n)
         → PutLine text old new to r
-    ended_line a b u put =
+    ended_line_lem a b u put =
         subst (PutLine text old new to) (sym known)
         (ended (slice a b text) u.uri
         (subst (λ (v : List ℕ). Put old new 0 to (ended_line (end_of e) p.0 v n)) (sym (slice_take_drop a b text u.part.ordered)) put))

@@ -93,5 +93,5 @@ module _ {w : List ℕ} {m n i : ℕ} (g : SoFar w m n i) where
 pub no_digits : (w : List ℕ) (k m : ℕ) → length w ≡ 0 → m ≡ number_up_to k m w
 no_digits w k m h = rw (le-ltb 0 (length w) (omega arith)) refl
 
-pub more_digits : (w : List ℕ) (k m : ℕ) → k < length w → m ≡ number_up_to k m w
-more_digits w k m h = rw (lt-ltb 0 (length w) (omega arith), lt-leb (length w) k h) refl
+pub more_digits_lem : (w : List ℕ) (k m : ℕ) → k < length w → m ≡ number_up_to k m w
+more_digits_lem w k m h = rw (lt-ltb 0 (length w) (omega arith), lt-leb (length w) k h) refl

@@ -7,13 +7,13 @@ use lib.ListN.{length, drop}
 use Rattle.kinds.specs.Put.{Put}
 use Rattle.kinds.proofs.Stores.{sets_front}
 use Rattle.tables.specs.Table.{Table}
-use Rattle.outcomes.specs.Number.{limit, done, no_relation}
+use Rattle.outcomes.specs.Number.{limit, done, no_relation_number}
 use Rattle.outcomes.specs.Copy.{untouched}
 use Rattle.outcomes.specs.Write.{written_form, Related, Wrote, no_relation, wrote}
 use Rattle.writer.specs.Related.{Unrelated}
 
 module _ {t : Table} (out : List ℕ) where
-  pub unrelated_answer : Unrelated t → Wrote t out (untouched out no_relation)
+  pub unrelated_answer : Unrelated t → Wrote t out (untouched out no_relation_number)
   unrelated_answer r = no_relation r.1 r.2
 
   -- the length is told by the place behind what was put

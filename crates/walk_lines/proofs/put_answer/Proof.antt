@@ -1,5 +1,5 @@
 -- The URI's part and the answer tell the line.
-use Rattle.walk_lines.proofs.AnswerLine.{refused_line_lem, ended_line}
+use Rattle.walk_lines.proofs.AnswerLine.{refused_line_lem, ended_line_lem}
 use borrow.Author.Rules.{rules}
 use Rattle.walk_lines.proofs.put_answer.Statement.{statement}
 use Rattle.walk_lines.proofs.put_answer.Tie as tie
@@ -34,7 +34,7 @@ same_length c = search rules
 returns : tie.Need-returns
 returns c =
     let part = c.before.before.before.before.before.uri-of in (
-      ended_line c.before.before.before.before.before.before.before.answer.given.1 part.result.from.0 part.result.to.0 part.ensures c.before.before.put_ended.ensures.0,
+      ended_line_lem c.before.before.before.before.before.before.before.answer.given.1 part.result.from.0 part.result.to.0 part.ensures c.before.before.put_ended.ensures.0,
       c.before.before.put_ended.ensures.1,
     )
 

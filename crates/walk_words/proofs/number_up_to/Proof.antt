@@ -5,7 +5,7 @@ use mathlib.Core.Path.{sym, ◌∙◌}
 use lib.ListN.{length}
 use borrow.Author.Rules.{rules}
 use borrow.Author.Tests.{not-true, not-false}
-use Rattle.walk_words.proofs.Reading.{SoFar, begin, one_more, other, all_read, no_digits, more_digits}
+use Rattle.walk_words.proofs.Reading.{SoFar, begin, one_more, other, all_read, no_digits, more_digits_lem}
 use Rattle.walk_words.proofs.number_up_to.Statement.{statement}
 use Rattle.walk_words.proofs.number_up_to.Tie as tie
 
@@ -19,7 +19,7 @@ returns : tie.Need-returns invariant-loop decreases-loop
 returns c = (no_digits c.before.before.args.word.now c.before.before.args.digits c.before.before.args.most (omega arith), omega arith)
 
 returns-2 : tie.Need-returns-2 invariant-loop decreases-loop
-returns-2 c = (more_digits c.before.before.before.args.word.now c.before.before.before.args.digits c.before.before.before.args.most (omega arith), omega arith)
+returns-2 c = (more_digits_lem c.before.before.before.args.word.now c.before.before.before.args.digits c.before.before.before.args.most (omega arith), omega arith)
 
 loop-holds : tie.Need-loop-init invariant-loop decreases-loop
 loop-holds c = begin c.before.before.before.args.word.now c.before.before.before.args.most

@@ -15,7 +15,7 @@ more-digits-requires c κs = search rules
 returns : tie.Need-returns
 returns c =
     let o = c.before.before.before.args.c in
-    rw (sym (hex_has o) ∙ sym c.before.before.is_in_lem.ensures ∙ c.before.if1.true) c.more_digits.ensures
+    rw (sym (hex_has o) ∙ sym c.before.before.is_in_lem.ensures ∙ c.before.if1.true) c.more_digits_lem.ensures
 
 group-ends-requires : tie.Need-group-ends-requires
 group-ends-requires c κs = search rules

@@ -27,7 +27,7 @@ returns c =
       c.pick3.ensures,
       c.before.pick2.ensures,
       c.before.before.pick.ensures,
-      c.before.before.before.more_digits.ensures,
+      c.before.before.before.more_digits_lem.ensures,
       c.before.before.before.before.is_in_lem.ensures,
       hex_has c.before.before.before.before.before.args.c,
       vee_has c.before.before.before.before.before.args.c,
