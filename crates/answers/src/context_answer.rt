@@ -11,7 +11,7 @@ const OF_TEXT: usize = 1;
 const OF_BASE: usize = 2;
 
 // A part of the text, or the whole base.
-#[derive(Drop)]
+#[derive(Clone, Copy)]
 pub enum ContextAnswer {
     Anchored(Span),
     Base,
@@ -19,7 +19,7 @@ pub enum ContextAnswer {
 }
 
 #[repr(C)]
-#[derive(Drop)]
+#[derive(Clone, Copy)]
 pub struct ContextNumbers {
     pub number: usize,
     pub source: usize,

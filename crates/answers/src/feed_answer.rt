@@ -9,7 +9,7 @@ use kinds::Place;
 // limit; within it, their place; and, where they end in a target, its start and the state of its judging as a reference. A caller in C
 // holds it from call to call, so that its numbers may be any.
 #[repr(C)]
-#[derive(Drop)]
+#[derive(Clone, Copy)]
 pub struct Feeding {
     pub edition: usize,
     pub phase: usize,
@@ -20,7 +20,7 @@ pub struct Feeding {
 }
 
 // Nothing is wrong with the octets so far, something is and they have this place, or why the feed is refused otherwise; and the next state.
-#[derive(Drop)]
+#[derive(Clone, Copy)]
 pub enum FeedAnswer {
     Begun(Feeding),
     Malformed(Place, Feeding),
@@ -28,7 +28,7 @@ pub enum FeedAnswer {
 }
 
 #[repr(C)]
-#[derive(Drop)]
+#[derive(Clone, Copy)]
 pub struct FeedNumbers {
     pub number: usize,
     pub place: usize,

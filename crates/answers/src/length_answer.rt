@@ -4,14 +4,14 @@ ghost use Rattle.answers.specs.Length.{length_numbers};
 
 use crate::{DONE, Refusal};
 
-#[derive(Drop)]
+#[derive(Clone, Copy)]
 pub enum LengthAnswer {
     Wrote(usize),
     Refused(Refusal),
 }
 
 #[repr(C)]
-#[derive(Drop)]
+#[derive(Clone, Copy)]
 pub struct LengthNumbers {
     pub number: usize,
     pub length: usize,

@@ -20,7 +20,7 @@ const DONE: usize = 0;
 const MALFORMED: usize = 2;
 
 // Why an entry refuses, where the answer tells nothing but the number.
-#[derive(Drop)]
+#[derive(Clone, Copy)]
 pub enum Refusal {
     TooLong,
     NoLinkRoom,

@@ -6,7 +6,7 @@ use crate::{DONE, MALFORMED, Refusal};
 use kinds::{Counts, Place};
 
 // Counts of links and kept parameters, the place of a malformed header, or why the header is refused otherwise.
-#[derive(Drop)]
+#[derive(Clone, Copy)]
 pub enum ReadAnswer {
     Done(Counts),
     Malformed(Place),
@@ -14,7 +14,7 @@ pub enum ReadAnswer {
 }
 
 #[repr(C)]
-#[derive(Drop)]
+#[derive(Clone, Copy)]
 pub struct ReadNumbers {
     pub number: usize,
     pub place: usize,

@@ -5,14 +5,14 @@ ghost use Rattle.answers.specs.Search.{search_numbers};
 use crate::{DONE, Refusal};
 use kinds::LinkNumber;
 
-#[derive(Drop)]
+#[derive(Clone, Copy)]
 pub enum SearchAnswer {
     Found(LinkNumber),
     Refused(Refusal),
 }
 
 #[repr(C)]
-#[derive(Drop)]
+#[derive(Clone, Copy)]
 pub struct SearchNumbers {
     pub number: usize,
     pub link: usize,

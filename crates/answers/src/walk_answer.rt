@@ -6,7 +6,7 @@ use crate::{DONE, Refusal};
 use kinds::PackNumber;
 
 // It arrived, or stopped for want of a link, of a target that can be resolved, or of a pack.
-#[derive(Drop)]
+#[derive(Clone, Copy)]
 pub enum End {
     Arrived,
     NoLink,
@@ -28,14 +28,14 @@ impl End {
 }
 
 // How it ended, the last pack and the steps taken, or why it is refused.
-#[derive(Drop)]
+#[derive(Clone, Copy)]
 pub enum WalkAnswer {
     Ended(End, PackNumber, usize),
     Refused(Refusal),
 }
 
 #[repr(C)]
-#[derive(Drop)]
+#[derive(Clone, Copy)]
 pub struct WalkNumbers {
     pub number: usize,
     pub end: usize,

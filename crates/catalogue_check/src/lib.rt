@@ -16,7 +16,7 @@ pub const CATALOGUE: usize = 65536;
 pub const PACKS: usize = 256;
 
 // Where the next line begins behind a pack that was added to the index, or that none could be added.
-#[derive(Drop)]
+#[derive(Clone, Copy)]
 pub enum Added {
     Before(Place),
     Wrong,
@@ -61,7 +61,7 @@ fn add_pack(
 }
 
 // How many packs the catalogue has, or that it is none.
-#[derive(Drop)]
+#[derive(Clone, Copy)]
 pub enum Checked {
     Right(usize),
     Wrong,

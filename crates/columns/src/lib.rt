@@ -7,7 +7,7 @@ ghost use Rattle.columns.specs.LineHolds.{Grown, LineHolds};
 ghost use Rattle.columns.specs.Line.{tab, line};
 
 // Room for a label of 7 octets, 7 numbers of 20 digits, each behind its HTAB, and LF.
-#[derive(Drop)]
+#[derive(Clone, Copy)]
 pub struct Line {
     pub octets: [u8; 160],
     pub len: usize,

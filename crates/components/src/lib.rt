@@ -12,7 +12,7 @@ use kinds::{Place, Span};
 
 // Where a text's first octet is, and where it goes on behind its scheme, behind its authority, behind its path, and behind its query. The
 // first three are moved past backslashes, so that two places are the same just if what lies between them isn't there.
-#[derive(Drop)]
+#[derive(Clone, Copy)]
 pub struct Cuts {
     pub from: Place,
     pub scheme: Place,
@@ -22,7 +22,7 @@ pub struct Cuts {
 }
 
 // What ends a component: for a scheme one of `:/?#`, for an authority one of `/?#`, for a path one of `?#`, for a query `#`.
-#[derive(Drop)]
+#[derive(Clone, Copy)]
 enum Stops {
     Scheme,
     Authority,

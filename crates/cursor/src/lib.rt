@@ -1,4 +1,6 @@
 // Where a reading stands. A cursor goes by value, and each move hands back the moved cursor.
+#![tactic(auto)]
+
 ghost use Rattle.std.specs.Prelude.{◌≡◌, ◌+◌, ◌≤◌, ◌<◌, length};
 ghost use Rattle.octets.specs.Sets.{is_blank, is_token, is_plain, is_target};
 ghost use Rattle.octets.specs.Editions.{further};
@@ -11,7 +13,7 @@ use kinds::{Place, Span};
 use octet_classes::{Set, is_in};
 use octets::editions::Edition;
 
-#[derive(Drop)]
+#[derive(Clone, Copy)]
 pub struct Cursor {
     pub at: Place,
 }

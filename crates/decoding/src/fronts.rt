@@ -10,7 +10,7 @@ use kinds::Place;
 use units::{Seen, look};
 
 // The place behind something that stands where it should.
-#[derive(Drop)]
+#[derive(Clone, Copy)]
 pub enum Behind {
     At(Place),
     Nowhere,

@@ -11,7 +11,7 @@ use crate::octets_given::{Measured, measure};
 use kinds::{Place, Span};
 
 // Where the characters of a right value begin, and how many octets it gives.
-#[derive(Drop)]
+#[derive(Clone, Copy)]
 pub enum Judged {
     Right(Place, usize),
     Wrong,

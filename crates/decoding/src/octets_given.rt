@@ -13,7 +13,7 @@ use sequences::Awaited;
 use units::{Given, is_attribute, unit};
 
 // How many octets are given; or that they are no UTF-8, or that something gives none.
-#[derive(Drop)]
+#[derive(Clone, Copy)]
 pub enum Measured {
     Count(usize),
     Unfit,

@@ -13,7 +13,7 @@ use octets::editions::Edition;
 use records::ParamRecord;
 
 // The cursor behind a link's parameters, and the number of the next parameter.
-#[derive(Drop)]
+#[derive(Clone, Copy)]
 pub struct Behind {
     pub cursor: Cursor,
     pub next: ParamNumber,

@@ -20,7 +20,7 @@ pub fn same_octet(c: u8, d: u8) -> bool
 }
 
 // What comparing two texts tells: whether they are the same once folded, and how many pairs of octets were compared.
-#[derive(Drop)]
+#[derive(Clone, Copy)]
 pub struct Compared {
     pub same: bool,
     pub pairs: usize,
@@ -28,7 +28,7 @@ pub struct Compared {
 
 // That for C: `same` is 1 or 0.
 #[repr(C)]
-#[derive(Drop)]
+#[derive(Clone, Copy)]
 pub struct CompareNumbers {
     pub same: usize,
     pub pairs: usize,

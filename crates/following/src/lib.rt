@@ -14,7 +14,7 @@ use named::Named;
 use runs::{match_run, next_run};
 
 // Where the target of that link stands, or that there is none.
-#[derive(Drop)]
+#[derive(Clone, Copy)]
 pub enum Followed {
     Target(Span),
     Nowhere,

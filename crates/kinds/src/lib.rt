@@ -5,34 +5,34 @@
 ghost use Rattle.std.specs.Prelude.{◌≡◌, ◌+◌, ◌-◌, ◌^◌, ◌≤◌, ◌<◌};
 
 // A place of an octet in the text, counted from 0.
-#[derive(Drop)]
+#[derive(Clone, Copy)]
 pub struct Place(pub usize);
 
 // A place of an octet in an output buffer, counted from 0.
-#[derive(Drop)]
+#[derive(Clone, Copy)]
 pub struct OutPlace(pub usize);
 
 // A link's number in its table, counted from 0.
-#[derive(Drop)]
+#[derive(Clone, Copy)]
 pub struct LinkNumber(pub usize);
 
 // A parameter's number in its table, counted from 0 through the whole table.
-#[derive(Drop)]
+#[derive(Clone, Copy)]
 pub struct ParamNumber(pub usize);
 
 // A pack's number in its catalogue, counted from 0.
-#[derive(Drop)]
+#[derive(Clone, Copy)]
 pub struct PackNumber(pub usize);
 
 // How many links and parameters a table has.
-#[derive(Drop)]
+#[derive(Clone, Copy)]
 pub struct Counts {
     pub links: usize,
     pub params: usize,
 }
 
 // A part of the text; its end is one past its last octet.
-#[derive(Drop)]
+#[derive(Clone, Copy)]
 pub struct Span {
     pub from: Place,
     pub to: Place,

@@ -11,7 +11,7 @@ use octets::editions::Edition;
 use records::ParamParts;
 
 // A parameter's parts, and the cursor behind it.
-#[derive(Drop)]
+#[derive(Clone, Copy)]
 pub struct ParamRead {
     pub parts: ParamParts,
     pub next: Cursor,

@@ -11,7 +11,7 @@ use octets::editions::Edition;
 use scan_parts::value::bare_form;
 
 // A value's span and form, and the cursor behind it.
-#[derive(Drop)]
+#[derive(Clone, Copy)]
 pub struct ValueRead {
     pub span: Span,
     pub form: usize,

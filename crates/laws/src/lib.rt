@@ -1,4 +1,6 @@
 // Laws over all the definitions, held by the gate: each function promises one statement of specs/ and does nothing.
+#![tactic(auto)]
+
 ghost use Rattle.octets.specs.declared.editions.Edition.{Edition};
 ghost use Rattle.laws.specs.Laws.{MarkedHold, SlipsHold, OlderHold, ReferencesHold, LookupsHold, MirrorHolds};
 ghost use Rattle.laws.specs.Laws.{TitlesHold, CodesAsked, TargetsAsked, PremiseNeeded};

@@ -22,7 +22,7 @@ use resolved_lines::put_line;
 use resolving::resolve;
 
 // How many octets a link's target and its context have, resolved; or why one of them is refused.
-#[derive(Drop)]
+#[derive(Clone, Copy)]
 pub enum LinkResolved {
     Resolved(usize, usize),
     Refused(Refusal),

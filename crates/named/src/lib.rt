@@ -5,7 +5,7 @@ ghost use Rattle.named.specs.First.{FirstCoded};
 
 use records::{LinkRecord, ParamParts, code_at, parts_at};
 
-#[derive(Drop)]
+#[derive(Clone, Copy)]
 pub enum Named {
     Found(ParamParts),
     Absent,

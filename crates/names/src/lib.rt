@@ -1,4 +1,6 @@
 // Known names: the code of each, and a record of which of those kept once have been seen.
+#![tactic(auto)]
+
 ghost use Rattle.std.specs.Prelude.{cond, ◌≡◌};
 ghost use Rattle.std.proofs.Math.Seq.{slice};
 ghost use Rattle.octets.specs.Fold.{folded, same_folded};
@@ -22,7 +24,7 @@ pub const TITLE_STAR: usize = 5;
 const ONCE: u32 = 126;
 
 // Which of the names kept once stood earlier in a link: the bit of a name's code is set.
-#[derive(Drop)]
+#[derive(Clone, Copy)]
 pub struct Seen {
     marks: u32,
 }

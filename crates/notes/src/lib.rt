@@ -1,6 +1,8 @@
 // Notes of records, taken while a header is judged, so that its tables can be filled without a second look at it. A note is a record's
 // numbers, in the order of a table's slots, in 16 bits each: as many as a header within the limit needs. A note for which there is no
 // room is left out.
+#![tactic(auto)]
+
 ghost use Rattle.std.specs.Prelude.{◌≡◌, cond, [], map, ◌+◌, ◌*◌, ◌≤◌, length, take};
 ghost use Rattle.std.proofs.lemmas.List.Edits.{sets};
 ghost use Rattle.grammar.specs.Records.{link_width, param_width};

@@ -13,7 +13,7 @@ use octets::editions::Edition;
 mod numbers;
 
 // The sets. Ptoken, what the older edition allows in a value without quotes, is made of two of the others; each other one has a bit.
-#[derive(Drop)]
+#[derive(Clone, Copy)]
 pub enum Set {
     Token,
     Plain,

@@ -7,14 +7,14 @@ pub const RFC8288: usize = 0;
 pub const RFC5988: usize = 1;
 
 // An edition that is known: RFC 8288's, and the older one of RFC 5988.
-#[derive(Drop)]
+#[derive(Clone, Copy)]
 pub enum Edition {
     Rfc8288,
     Rfc5988,
 }
 
 // What a number asks for.
-#[derive(Drop)]
+#[derive(Clone, Copy)]
 pub enum Asked {
     Known(Edition),
     Unknown,

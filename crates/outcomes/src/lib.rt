@@ -1,4 +1,6 @@
 // The laws of the outcomes, held by the gate: each function promises one statement of specs/Laws.antt and does nothing.
+#![tactic(auto)]
+
 ghost use Rattle.outcomes.specs.Laws.{Refusals, ReadSettled, SearchSettled, ContextSettled, CopySettled, WriteSettled};
 ghost use Rattle.outcomes.specs.Laws.{UnknownRefused, TitleSettled, DecodeSettled, FeedSettled, FinishSettled, StartHolds};
 ghost use Rattle.outcomes.specs.Laws.{ResolveSettled, ResolvedContextSettled};

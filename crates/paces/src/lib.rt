@@ -2,14 +2,14 @@
 ghost use Rattle.paces.specs.Paces.{IsPaces};
 
 // Which relation is followed.
-#[derive(Drop)]
+#[derive(Clone, Copy)]
 pub enum Way {
     Next,
     Prev,
 }
 
 // So many steps that way, or more than there may be.
-#[derive(Drop)]
+#[derive(Clone, Copy)]
 pub enum Paces {
     Go(Way, usize),
     Far,

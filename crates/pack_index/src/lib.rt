@@ -13,7 +13,7 @@ use kinds::{PackNumber, Place};
 pub const PACK_SLOTS: usize = 3;
 
 // The places of a pack.
-#[derive(Drop)]
+#[derive(Clone, Copy)]
 pub struct PackPlaces {
     pub from: Place,
     pub tab: Place,
@@ -76,7 +76,7 @@ fn are_same(u: &[u8], v: &[u8]) -> bool
 }
 
 // The first pack that has a URI, or none.
-#[derive(Drop)]
+#[derive(Clone, Copy)]
 pub enum PackFound {
     At(PackNumber),
     Nowhere,

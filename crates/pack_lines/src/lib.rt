@@ -67,7 +67,7 @@ fn past_value(s: &[u8], from: Place) -> Place
 }
 
 // The places of a line's pack, or that there is no such line.
-#[derive(Drop)]
+#[derive(Clone, Copy)]
 pub enum LineFound {
     At(PackPlaces),
     Nowhere,

@@ -14,7 +14,7 @@ use reference_scan::{past_blocks, run_over};
 
 // The spot at the text's end, the place of an octet that leads nowhere, the start of a target that is no reference, or the spot and the
 // cursor behind an octet.
-#[derive(Drop)]
+#[derive(Clone, Copy)]
 pub enum Move {
     End(Spot),
     Halt(Place),

@@ -16,7 +16,7 @@ mod outside;
 
 // The spot behind the part, the place in it of the first octet that leads nowhere, or the start of a target that is closed in it and is
 // no reference: its place in the header, which may lie before the part.
-#[derive(Drop)]
+#[derive(Clone, Copy)]
 pub enum PartScan {
     Through(Spot),
     Stuck(Place),

@@ -16,7 +16,7 @@ use phases::on;
 
 // The phase at the text's end, the place of an octet that leads nowhere, the cursor behind the `<` of a target, or the phase and the cursor
 // behind another octet.
-#[derive(Drop)]
+#[derive(Clone, Copy)]
 pub enum Step {
     End(usize),
     Halt(Place),

@@ -1,5 +1,7 @@
 // The phases of reading by their numbers, and what one octet leads to in each of them: where a header stands of which only a part has
 // arrived.
+#![tactic(auto)]
+
 ghost use Rattle.std.specs.Prelude.{◌≡◌, cond};
 ghost use Rattle.octets.specs.Editions.{further};
 ghost use Rattle.octet_classes.specs.Sets.{is_in};

@@ -14,7 +14,7 @@ pub const UNFIT: usize = 13;
 
 // The phase and, in a target, the target's start and the state of its judging as a reference; outside both are 0, and behind a target that
 // is no reference the state is.
-#[derive(Drop)]
+#[derive(Clone, Copy)]
 pub struct Spot {
     pub phase: usize,
     pub target: Place,

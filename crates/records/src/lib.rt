@@ -1,4 +1,6 @@
 // Link records and parameter records, and the one place where the kinds of number are converted to and from the slots of a table.
+#![tactic(auto)]
+
 ghost use Rattle.std.specs.Prelude.{◌≡◌, ◌*◌, ◌<◌};
 ghost use Rattle.std.proofs.lemmas.List.Edits.{sets};
 ghost use Rattle.grammar.specs.Records.{link_width, param_width, link_room_of, param_room_of};
@@ -14,7 +16,7 @@ pub const LINK_SLOTS: usize = 4;
 pub const PARAM_SLOTS: usize = 6;
 
 // A link record.
-#[derive(Drop)]
+#[derive(Clone, Copy)]
 pub struct LinkRecord {
     pub target: Span,
     pub first: ParamNumber,
@@ -22,7 +24,7 @@ pub struct LinkRecord {
 }
 
 // The parts of a parameter: where its name and its value stand, and the value's form.
-#[derive(Drop)]
+#[derive(Clone, Copy)]
 pub struct ParamParts {
     pub name: Span,
     pub value: Span,
@@ -30,7 +32,7 @@ pub struct ParamParts {
 }
 
 // A parameter record: the parts, and the code of the name.
-#[derive(Drop)]
+#[derive(Clone, Copy)]
 pub struct ParamRecord {
     pub parts: ParamParts,
     pub code: usize,

@@ -1,5 +1,7 @@
 // One octet of a reference: what the machine of RFC 3986's references steps to, as code. A state is any number; one that is no state's
 // leads nowhere.
+#![tactic(auto)]
+
 ghost use Rattle.std.specs.Prelude.{◌≡◌, ◌≤◌, ◌<◌};
 ghost use Rattle.reference_steps.specs.Machine.{step, accepts};
 ghost use Rattle.octet_classes.specs.Classes.{Classes};

@@ -18,7 +18,7 @@ mod passing;
 mod walking;
 
 // The cursor behind what was judged, and the state there.
-#[derive(Drop)]
+#[derive(Clone, Copy)]
 pub struct Judged {
     pub at: Cursor,
     pub state: usize,

@@ -44,7 +44,7 @@ pub fn is_scheme(c: u8) -> bool
 
 // The runs that keep a state: of a path, a query or a fragment; of an authority, or the host in it; its port; a scheme; a first segment
 // that can't be a scheme.
-#[derive(Drop)]
+#[derive(Clone, Copy)]
 pub enum Run {
     Path,
     Host,

@@ -7,7 +7,7 @@ ghost use Rattle.resolution.specs.Examples.{ExamplesHold};
 
 // How a path is gone through from its right end: how many `..` wait for a segment, what the open segment is so far (0 nothing, 1 `.`,
 // 2 `..`, 3 any other), and how many octets are kept.
-#[derive(Drop)]
+#[derive(Clone, Copy)]
 pub struct Walk {
     pub pending: usize,
     pub kind: usize,

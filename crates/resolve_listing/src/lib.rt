@@ -13,7 +13,7 @@ use kinds::{Counts, LinkNumber};
 use link_lines::{put_link, refused_line};
 
 // Whether links can be resolved on a base, or why not.
-#[derive(Drop)]
+#[derive(Clone, Copy)]
 pub enum BaseTold {
     Right,
     Refused(Refusal),

@@ -12,7 +12,7 @@ use resolution::Walk;
 
 // The base up to `head`; of the text what stands before the path; the path, of which `folder` stands in the base and `own` behind it in the
 // text; and of the text what stands behind the path. Backslashes of the text are passed over.
-#[derive(Drop)]
+#[derive(Clone, Copy)]
 pub struct Route {
     pub head: Place,
     pub front: Span,
@@ -22,7 +22,7 @@ pub struct Route {
 }
 
 // Where the path ends in the result, and how long the result is.
-#[derive(Drop)]
+#[derive(Clone, Copy)]
 pub struct Lengths {
     pub path: usize,
     pub whole: usize,

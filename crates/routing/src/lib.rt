@@ -15,7 +15,7 @@ use leading_dots::trim;
 use routes::Route;
 
 // What a base gives to a result: its octets up to `head`, and what is put before the reference's path.
-#[derive(Drop)]
+#[derive(Clone, Copy)]
 struct Plan {
     head: Place,
     folder: Span,

@@ -48,7 +48,7 @@ fn agrees(q: &[u8], i: usize, c: u8) -> bool
 }
 
 // What comparing a run found: whether it is the same, folded, and the place behind it.
-#[derive(Drop)]
+#[derive(Clone, Copy)]
 pub struct RunMatch {
     pub same: bool,
     pub next: Place,

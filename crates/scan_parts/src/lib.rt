@@ -10,14 +10,14 @@ pub mod target;
 pub mod value;
 
 // Where a scan ended: the place at which the header is malformed, or the cursor past what was asked.
-#[derive(Drop)]
+#[derive(Clone, Copy)]
 pub enum Scan {
     Stuck(Place),
     Past(Cursor),
 }
 
 // A parameter's parts, and the cursor behind it.
-#[derive(Drop)]
+#[derive(Clone, Copy)]
 pub enum ParamScan {
     NoParam(Place),
     Param(ParamParts, Cursor),

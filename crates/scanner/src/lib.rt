@@ -6,7 +6,7 @@ pub mod header;
 mod link;
 
 // The place at which a header is malformed, or how many links and kept parameters it has.
-#[derive(Drop)]
+#[derive(Clone, Copy)]
 pub enum HeaderScan {
     Malformed(Place),
     Counted(Counts),

@@ -15,7 +15,7 @@ use scan_parts::target::past_target;
 use scan_parts::{ParamScan, Scan};
 
 // A link's cursor behind its parameters, at a comma or the end, and how many of them are kept.
-#[derive(Drop)]
+#[derive(Clone, Copy)]
 pub enum LinkScan {
     NoLink(Place),
     Whole(Cursor, usize),

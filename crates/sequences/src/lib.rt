@@ -7,7 +7,7 @@ ghost use Rattle.sequences.specs.Awaited.{tails, nothing, impossible, behind_fir
 ghost use Rattle.sequences.specs.Laws.{AwaitedExact, OnesTell};
 
 // How many octets of a sequence are still awaited, and from where to where the next may lie.
-#[derive(Drop)]
+#[derive(Clone, Copy)]
 pub struct Awaited {
     pub count: u8,
     pub low: u8,

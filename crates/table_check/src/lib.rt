@@ -10,7 +10,7 @@ use octets::editions::{Asked, Edition, edition_of};
 mod links;
 
 // The table may be used, or is refused.
-#[derive(Drop)]
+#[derive(Clone, Copy)]
 pub enum TableState {
     Usable,
     Refused(Refusal),

@@ -117,14 +117,14 @@ module _ (s w x : List ℕ) where
             (st.params ∙ ap (λ (q : List ℕ). y ++ q) (append_assoc (records_of s l.params) (param_records s ls) z)) st.param_before,
       )
 
-  links_filled : {u v y z : List ℕ} {i n : ℕ} (ls : List Link) → Stand u v y z i n ls → links_from w x i (length ls) ≡ ls
+  links_filled : (ls : List Link) {u v y z : List ℕ} {i n : ℕ} → Stand u v y z i n ls → links_from w x i (length ls) ≡ ls
   links_filled [] st = refl
   links_filled (l ∷ ls) st = ap₂ (λ (a : Link) (b : List Link). a ∷ b) (link_filled st) (links_filled ls (on st))
 
-  follow_filled : {u v y z : List ℕ} {i n : ℕ} (ls : List Link) → Stand u v y z i n ls
+  follow_filled : (ls : List Link) {u v y z : List ℕ} {i n : ℕ} → Stand u v y z i n ls
       → Follows w i (length ls) n (n + count_params ls)
-  follow_filled {n = n} [] st = sym (add-zero n)
-  follow_filled {i = i} {n = n} (l ∷ ls) st =
+  follow_filled [] {n = n} st = sym (add-zero n)
+  follow_filled (l ∷ ls) {i = i} {n = n} st =
       let f = first_count st in
       let far : n + length l.params + count_params ls ≡ n + (length l.params + count_params ls) = omega arith in (
         f.0,

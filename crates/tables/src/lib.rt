@@ -1,5 +1,7 @@
 // The laws of tables and of the written form, held by the gate: each function promises one statement of specs/Laws.antt
 // and does nothing.
+#![tactic(auto)]
+
 ghost use Rattle.tables.specs.Laws.{RelationsMeant, QueryFolded, NoQuery, GoodDecided, FormThree, GoodAlike, ReadGood, ReadBack, WrittenTells};
 
 // A link's relations are told by its meaning alone.

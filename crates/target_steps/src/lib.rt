@@ -14,7 +14,7 @@ use pack_index::{PackFound, find};
 use resolving::put_resolved;
 
 // The number of the pack that a step leads to, or why there is none.
-#[derive(Drop)]
+#[derive(Clone, Copy)]
 pub enum Stepped {
     To(PackNumber),
     Stop(End),

@@ -12,14 +12,14 @@ use octet_classes::{Set, is_in};
 use values::meant_at;
 
 // An octet and the place behind it, or none.
-#[derive(Drop)]
+#[derive(Clone, Copy)]
 pub enum Seen {
     Octet(u8, Place),
     End,
 }
 
 // An octet given and the place behind what gave it; or that nothing is left; or that something else stands there.
-#[derive(Drop)]
+#[derive(Clone, Copy)]
 pub enum Given {
     Gives(u8, Place),
     Done,

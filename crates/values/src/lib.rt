@@ -1,5 +1,7 @@
 // What a part of a text means: each backslash with the octet behind it is read as that octet. Nothing is copied to look at it, and
 // each octet is looked at once. Loops branch at a backslash, so that no octet's place has to wait for the octet before it to be read.
+#![tactic(auto)]
+
 ghost use Rattle.std.specs.Prelude.{◌≡◌, ◌+◌, ◌≤◌, ◌<◌, length};
 ghost use Rattle.kinds.specs.Put.{Put};
 ghost use Rattle.tables.specs.Good.{InText};

@@ -1,4 +1,6 @@
 // The start and the steps that two words ask for. A word that is no number asks for one that no walk takes.
+#![tactic(auto)]
+
 ghost use Rattle.std.specs.Prelude.{◌≡◌, true, ◌+◌, ◌-◌, ◌*◌, ◌≤◌, min};
 ghost use Rattle.octets.specs.Sets.{is_digit};
 ghost use Rattle.walk_words.specs.Words.{number_up_to, start_of, steps_of};

@@ -12,7 +12,7 @@ use kinds::Counts;
 use measuring::{form_bound, form_len};
 
 // The form is within the limit and the room, or over the one or the other; the limit comes first.
-#[derive(Drop)]
+#[derive(Clone, Copy)]
 pub enum Fit {
     Fits,
     OverLimit,

@@ -1,0 +1,5 @@
+-- The tests are those of the definition, in its order. Assumes nothing.
+use Rattle.reference_literal.proofs.dotted.number_ends.Goals as goal
+
+pub returns : goal.returns
+returns c = cc
