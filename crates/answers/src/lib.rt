@@ -1,5 +1,7 @@
 // What entries answer: an enum for each kind of answer, and for each one function that gives the numbers of its cases. The entries
 // for C and the programs take their numbers from here alone.
+#![tactic(auto)]
+
 ghost use Rattle.std.specs.Prelude.{◌≡◌};
 ghost use Rattle.answers.specs.Refusal.{refusal_number};
 

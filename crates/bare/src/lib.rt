@@ -1,5 +1,7 @@
 // A part of a text read without its backslashes, in place. No reference holds a backslash, so where a part means a reference every
 // backslash of it is one that comes out. Loops branch at a backslash, as those of `values` do.
+#![tactic(auto)]
+
 ghost use Rattle.std.specs.Prelude.{◌≡◌, ◌+◌, ◌≤◌, length};
 ghost use Rattle.kinds.specs.Put.{Put};
 ghost use Rattle.tables.specs.Good.{InText};

@@ -1,4 +1,6 @@
 // Catalogues of packs, steps and walks, as definitions, and their laws.
+#![tactic(auto)]
+
 ghost use Rattle.catalogues.specs.Laws.{OneCatalogue, FoundAgain, CatalogueDecided, WalkSettled, Onwards, StepsTaken};
 ghost use Rattle.catalogues.specs.Examples.{ExamplesHold};
 

@@ -1,5 +1,7 @@
 // The five components of a text (RFC 3986, section 3) as places in it, found through its backslashes: the text is cut at the first of
 // some octets, the way of RFC 3986's Appendix B. Each octet is looked at a few times at most.
+#![tactic(auto)]
+
 ghost use Rattle.std.specs.Prelude.{◌≡◌, ◌≤◌, length};
 ghost use Rattle.octets.specs.Sets.{one_of};
 ghost use Rattle.tables.specs.Good.{InText};

@@ -1,4 +1,6 @@
 // Extended values decoded in place: judged and measured first, and then written. With `escapes` a value is read through its backslashes.
+#![tactic(auto)]
+
 pub mod fronts;
 pub mod octets_given;
 

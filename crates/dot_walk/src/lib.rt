@@ -1,5 +1,7 @@
 // Dot segments removed from a path's right end: how long the result is, and the result itself, written where it ends. A path in two texts
 // is gone through by two calls, the state handed from one to the next.
+#![tactic(auto)]
+
 ghost use Rattle.std.specs.Prelude.{◌≡◌, ◌+◌, ◌-◌, ◌*◌, ◌^◌, ◌≤◌, ◌<◌, [], ◌∷◌, length};
 ghost use Rattle.std.proofs.lemmas.List.Edits.{sets};
 ghost use Rattle.tables.specs.Good.{InText};

@@ -1,5 +1,7 @@
 // Whole texts judged: whether a part of a text means a reference, its backslashes taken out, and whether a text is a URI. Nothing is
 // copied to judge it.
+#![tactic(auto)]
+
 ghost use Rattle.std.specs.Prelude.{◌≡◌};
 ghost use Rattle.tables.specs.Good.{InText};
 ghost use Rattle.values.specs.Rest.{rest};

@@ -1,4 +1,6 @@
 // The dot segments that a path begins with, if it doesn't begin with a slash: they go first, from the left.
+#![tactic(auto)]
+
 ghost use Rattle.std.specs.Prelude.{◌≤◌, length};
 ghost use Rattle.tables.specs.Good.{InText};
 ghost use Rattle.leading_dots.specs.Leads.{Behind, Leads, Trims};

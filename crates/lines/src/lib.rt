@@ -1,4 +1,6 @@
 // The lines of a listing, each as a value, and the input without the LF that ends it. Nothing is read or written here.
+#![tactic(auto)]
+
 ghost use Rattle.columns.specs.LineHolds.{LineHolds};
 ghost use Rattle.records.specs.Slots.{link_numbers, param_numbers};
 ghost use Rattle.lines.specs.FinalLf.{IsTrimmed};

@@ -1,4 +1,6 @@
 // The first parameter of a code in a link.
+#![tactic(auto)]
+
 ghost use Rattle.std.specs.Prelude.{◌+◌, ◌≤◌};
 ghost use Rattle.grammar.specs.Records.{param_room_of};
 ghost use Rattle.named.specs.First.{FirstCoded};

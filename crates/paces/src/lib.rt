@@ -1,4 +1,6 @@
 // How a walk is asked for: a signed number of steps, told apart into a way and a count.
+#![tactic(auto)]
+
 ghost use Rattle.paces.specs.Paces.{IsPaces};
 
 // Which relation is followed.

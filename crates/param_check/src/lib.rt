@@ -1,4 +1,6 @@
 // Whether the parameters of a link are good.
+#![tactic(auto)]
+
 ghost use Rattle.std.specs.Prelude.{◌+◌, ◌≤◌, []};
 ghost use Rattle.octets.specs.Editions.{further};
 ghost use Rattle.grammar.specs.Records.{param_room_of};

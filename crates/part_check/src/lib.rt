@@ -1,4 +1,6 @@
 // Whether a part of the text obeys the grammar, from its first octet to its last and no further.
+#![tactic(auto)]
+
 ghost use Rattle.std.specs.Prelude.{◌≤◌, ◌<◌, length};
 ghost use Rattle.octets.specs.Editions.{further};
 ghost use Rattle.grammar.specs.Grammar.{Token, Wider, Inside};

@@ -123,7 +123,7 @@ flat_stays extra p q a c o e n = rw (o, e, n)
 
 module _ {extra : Extra} {s : List ℕ} {base : ℕ} where
   -- one way behind another
-  pub leads_on : {x y z : Spot} {a i k : ℕ} → Leads extra s base x a y i → Leads extra s base y i z k → Leads extra s base x a z k
+  pub leads_on : {x y : Spot} {a i : ℕ} {z : Spot} {k : ℕ} → Leads extra s base x a y i → Leads extra s base y i z k → Leads extra s base x a z k
   leads_on l here = l
   leads_on l (further m h e a) = further (leads_on l m) h e a
 

@@ -1,4 +1,6 @@
 // A part of a header, judged from the spot on at which the part before it ended.
+#![tactic(auto)]
+
 ghost use Rattle.std.specs.Prelude.{◌+◌, ◌<◌, ◌^◌, length};
 ghost use Rattle.octets.specs.Editions.{further};
 ghost use Rattle.phases.specs.Spots.{normal};

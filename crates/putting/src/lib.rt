@@ -1,4 +1,6 @@
 // Octets put into a buffer at a moving place. Each function answers the place behind what it put.
+#![tactic(auto)]
+
 ghost use Rattle.std.specs.Prelude.{◌+◌, ◌≤◌, ◌<◌, [], ◌∷◌, length};
 ghost use Rattle.kinds.specs.Put.{Put};
 

@@ -1,4 +1,6 @@
 // Judging references: the machine of RFC 3986's references run over a text, fast.
+#![tactic(auto)]
+
 ghost use Rattle.std.specs.Prelude.{◌≡◌, ◌≤◌, length};
 ghost use Rattle.std.proofs.Math.Seq.{slice};
 ghost use Rattle.reference_steps.specs.Machine.{run, accepts};

@@ -1,4 +1,6 @@
 // The runs parted by SP in what a part of a text means, one after another. Loops branch at a backslash, as those of `values` do.
+#![tactic(auto)]
+
 ghost use Rattle.std.specs.Prelude.{◌≡◌, not, ◌≤◌, ◌<◌, length};
 ghost use Rattle.tables.specs.Good.{InText};
 ghost use Rattle.tables.specs.Relation.{runs};

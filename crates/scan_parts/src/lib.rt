@@ -1,5 +1,7 @@
 // The parts of a link, judged by the grammar. Each scan hands back the cursor behind what it passed, or the place at
 // which the header is malformed.
+#![tactic(auto)]
+
 use cursor::Cursor;
 use kinds::Place;
 use records::ParamParts;

@@ -1,5 +1,7 @@
 // The first pass over a header: judges it by the grammar, octet by octet, counts its links and kept parameters, and notes their records as
 // far as there is room for notes.
+#![tactic(auto)]
+
 use kinds::{Counts, Place};
 
 pub mod header;

@@ -1,4 +1,6 @@
 // How a value is written: bare or in quotes, and in how many octets.
+#![tactic(auto)]
+
 ghost use Rattle.std.specs.Prelude.{◌≡◌, ◌+◌, ◌≤◌, length};
 ghost use Rattle.grammar.specs.Grammar.{Inside};
 ghost use Rattle.octets.specs.Editions.{further};

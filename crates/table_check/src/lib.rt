@@ -1,4 +1,6 @@
 // What every entry over a table asks of it first.
+#![tactic(auto)]
+
 ghost use Rattle.tables.specs.Table.{table_of};
 ghost use Rattle.octet_classes.specs.Classes.{Classes};
 ghost use Rattle.table_check.specs.State.{StateIn, IsState};

@@ -1,4 +1,6 @@
 // Attribute characters and triples of an extended value, read in place: through the backslashes of a quoted string, or as they stand.
+#![tactic(auto)]
+
 ghost use Rattle.std.specs.Prelude.{◌≡◌, true, ◌≤◌, ◌<◌, length};
 ghost use Rattle.octets.specs.Sets.{is_hex};
 ghost use Rattle.extended.specs.Value.{is_attribute, hex_value, tripled};

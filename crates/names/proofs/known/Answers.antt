@@ -65,3 +65,12 @@ unfolding fold
 returns-in-8 c =
     let n = c.args.n.now in
     one_left n (long 8) (is_long_lem n c.in-8.is) codes.hreflang refl refl c.only-in-8.ensures
+
+pub returns-in_default : goal.returns-in_default
+unfolding fold
+returns-in_default c =
+    let n = c.args.n.now in
+    let others = c.in_default.in_default-own.rest in
+    none_left n (λ m. not (long 3 m || (long 4 m || (long 5 m || (long 6 m || long 8 m)))))
+    (rw (not_long n others.0.0.0.0.1, not_long n others.0.0.0.1, not_long n others.0.0.1, not_long n others.0.1, not_long n others.1))
+    refl

@@ -41,4 +41,4 @@ pub returns-in-11 : goal.returns-in-11
 returns-in-11 c = cc (on_escape (further c.args.edition) c.args.c)
 
 pub returns-in_default : goal.returns-in_default
-returns-in_default c = sym (on_none (further c.args.edition) c.args.phase c.args.c c.in_default)
+returns-in_default c = sym (on_none (further c.args.edition) c.args.phase c.args.c c.in_default.in_default-own.rest)

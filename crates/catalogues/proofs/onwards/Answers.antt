@@ -1,0 +1,6 @@
+-- The law holds.
+use Rattle.catalogues.proofs.WalkingOn.{onwards}
+use Rattle.catalogues.proofs.onwards.Goals as goal
+
+pub returns : goal.returns
+returns c = onwards
