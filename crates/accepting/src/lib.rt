@@ -1,4 +1,6 @@
 // Whether a Link value is accepted by RFC 8288's edition when it is read by itself.
+#![tactic(auto)]
+
 ghost use Rattle.std.specs.Prelude.{length};
 ghost use Rattle.accepting.specs.Accepted.{TellsAccepted};
 

@@ -1,5 +1,7 @@
 // Whether a text is a catalogue, and where its packs stand in it. Every line is looked at once: its URI is judged, its Link value read by
 // itself in the work tables, and its URI looked for among those before it.
+#![tactic(auto)]
+
 ghost use Rattle.std.specs.Prelude.{◌*◌, ◌≤◌, ◌<◌, length};
 ghost use Rattle.octet_classes.specs.Classes.{Classes};
 ghost use Rattle.catalogues.specs.Packs.{pack_limit};

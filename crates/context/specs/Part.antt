@@ -27,7 +27,7 @@ pub record IsContext (n : ℕ) (t : Table) (i : ℕ) (a : ContextAnswer) : Type 
 -- where the part of the text or of the base begins in memory: a block, and a place in it
 abbrev pub begins_at : Bor (List ℕ) → Bor (List ℕ) → ContextOut → ℕ × ℕ
 begins_at text base o =
-    elim o.source [ of_text ↦ (text.ptr.0, text.ptr.1 + o.start) | of_base ↦ (base.ptr.0, base.ptr.1 + o.start) ]
+    elim o.source [ of_text ↦ (text.ref_ptr.0, text.ref_ptr.1 + o.start) | of_base ↦ (base.ref_ptr.0, base.ref_ptr.1 + o.start) ]
 
 -- what the reference r hands back: the octets of the outcome's part, where they stand in the text or in the base
 pub record HandsBack (n : ℕ) (t : Table) (i : ℕ) (text base r : Bor (List ℕ)) : Type 0 where

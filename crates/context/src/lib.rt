@@ -1,5 +1,7 @@
 // A link's context: its `anchor` value as written, else the whole base. Both entries refuse an edition that there isn't, a text that
 // is too long, a table that is not good, and a link that isn't there.
+#![tactic(auto)]
+
 ghost use Rattle.std.specs.Prelude.{◌<◌, length};
 ghost use Rattle.octets.specs.declared.editions.Edition.TheVariants.{Rfc5988};
 ghost use Rattle.tables.specs.Table.{table_of};

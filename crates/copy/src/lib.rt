@@ -1,4 +1,6 @@
 // Value copy: what one parameter's value means, written into a buffer that is lent.
+#![tactic(auto)]
+
 ghost use Rattle.octets.specs.declared.editions.Edition.TheVariants.{Rfc5988};
 ghost use Rattle.tables.specs.Table.{table_of};
 ghost use Rattle.outcomes.specs.Usable.{Usable};

@@ -1,5 +1,7 @@
 // A header that arrives in parts. Each part is judged from the spot on at which the one before it ended, and then stored behind what
 // was gathered; so no octet of an earlier part is looked at again, however the header is cut, and a refusal stores nothing.
+#![tactic(auto)]
+
 ghost use Rattle.std.specs.Prelude.{◌≡◌, ◌+◌, suc, min, length};
 ghost use Rattle.outcomes.specs.Number.{limit};
 ghost use Rattle.outcomes.specs.Feeding.{start, moved_to, start_in, FeedsIn, Feeds, FinishesIn, Finishes};

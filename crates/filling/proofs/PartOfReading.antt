@@ -111,6 +111,7 @@ module _ {extra : Extra} {s : List ℕ} {R : List Link} (f : Field extra s R) wh
       go true y z (r_after {ps = ps} {R = Q} a) = (ps, Q, refl)
       go false true z (r_semi {p = p} {ps = ps} {R = Q} b q a) = (p ∷ ps, Q, refl)
       go false false true (r_gap {R = Q} g) = ([], Q, refl)
+      go {Z = Z} {j = j} false false false x4 = elim x4 [ ]
 
       test : Dec (length s ≤ i) → (ps : List Param) × (Q : List Link) × (R ≡ whole o ps Q)
       test (yes h) = ([], [], one_derived extra r.stands.apart s f (finishes r.stands h r.settles))

@@ -1,4 +1,6 @@
 // The second pass: fills in the records of a header that has a reading, in tables that have room for it. Nothing is judged again.
+#![tactic(auto)]
+
 ghost use Rattle.octets.specs.Editions.{further};
 ghost use Rattle.octet_classes.specs.Classes.{Classes};
 ghost use Rattle.filling.specs.Filling.{ReadingFits, TablesFilled};

@@ -1,4 +1,6 @@
 // The link of a table that a step follows: the first that has a relation and no `anchor`.
+#![tactic(auto)]
+
 ghost use Rattle.std.specs.Prelude.{◌≡◌, ◌<◌};
 ghost use Rattle.octets.specs.declared.editions.Edition.TheVariants.{Rfc5988};
 ghost use Rattle.tables.specs.Table.{table_of, link_at};

@@ -1,4 +1,6 @@
 // Links put into a buffer in their written form, one behind another.
+#![tactic(auto)]
+
 ghost use Rattle.std.specs.Prelude.{◌+◌, ◌≤◌, length};
 ghost use Rattle.octets.specs.declared.editions.Edition.TheVariants.{Rfc5988};
 ghost use Rattle.kinds.specs.Put.{Put};

@@ -1,4 +1,5 @@
 // Lists the Link field value on standard input, without the LF that ends it, if there.
+#![tactic(auto)]
 
 // Room for the longest field value, the LF behind it, and one octet more, which tells that there is too much.
 const INPUT: usize = answers::LIMIT + 2;

@@ -1,5 +1,7 @@
 // Lists a header on standard output: its links and their parameters, or why it is refused. The lines are those of the crate `lines`,
 // and their numbers those of the answer and of the records; what is done here is to hand them out.
+#![tactic(auto)]
+
 ghost use Rattle.std.specs.Prelude.{◌+◌, ◌≤◌};
 ghost use Rattle.grammar.specs.Records.{param_room_of};
 ghost use Rattle.io.specs.Counts.{IsPrefixLen as Within};

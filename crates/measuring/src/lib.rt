@@ -1,5 +1,7 @@
 // The length of the written form, and a bound of it, measured as far as the limit: a table's spans may overlap, so its form may be far
 // longer than any number holds, and what is past the limit need not be known.
+#![tactic(auto)]
+
 ghost use Rattle.std.specs.Prelude.{◌≡◌, ◌+◌, ◌≤◌, length};
 ghost use Rattle.octets.specs.Editions.{further};
 ghost use Rattle.octets.specs.declared.editions.Edition.TheVariants.{Rfc5988};

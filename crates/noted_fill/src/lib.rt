@@ -1,4 +1,6 @@
 // Fills in the records of a header that was judged and noted: from the notes, where they hold all records, and else by a second pass.
+#![tactic(auto)]
+
 ghost use Rattle.std.specs.Prelude.{◌<◌, length};
 ghost use Rattle.octets.specs.Editions.{further};
 ghost use Rattle.octet_classes.specs.Classes.{Classes};

@@ -1,4 +1,6 @@
 // The line of a pack: an absolute-URI, a tab, a Link value and LF. The Link value isn't judged here.
+#![tactic(auto)]
+
 ghost use Rattle.std.specs.Prelude.{◌≡◌, ◌+◌, ◌≤◌, length};
 ghost use Rattle.std.proofs.Math.Seq.{slice};
 ghost use Rattle.octets.specs.Sets.{all};

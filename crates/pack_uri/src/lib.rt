@@ -1,4 +1,6 @@
 // The URI of a pack, found in a catalogue by the pack's number.
+#![tactic(auto)]
+
 ghost use Rattle.pack_uri.specs.Uri.{UriPart};
 
 use kinds::{PackNumber, Place, Span};

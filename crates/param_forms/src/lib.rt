@@ -1,4 +1,6 @@
 // Parameters put into a buffer in their written form, one behind another.
+#![tactic(auto)]
+
 ghost use Rattle.std.specs.Prelude.{◌+◌, ◌≤◌, length};
 ghost use Rattle.octets.specs.Editions.{further};
 ghost use Rattle.octets.specs.declared.editions.Edition.TheVariants.{Rfc5988};

@@ -1,4 +1,6 @@
 // Columns of a line, put into a buffer at a moving place: octets or a number, and the octet that ends them.
+#![tactic(auto)]
+
 ghost use Rattle.std.specs.Prelude.{◌+◌, ◌≤◌, [], ◌∷◌, ◌++◌, length};
 ghost use Rattle.kinds.specs.Put.{Put};
 ghost use Rattle.columns.specs.Decimal.{decimal};

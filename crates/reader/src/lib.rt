@@ -1,4 +1,6 @@
 // Reads a header into lent tables, with notes for as many records as a header of its length mostly has.
+#![tactic(auto)]
+
 ghost use Rattle.outcomes.specs.Read.{Read, ReadIn};
 ghost use Rattle.answers.specs.Read.{read_numbers, read_out};
 

@@ -1,5 +1,7 @@
 // A header read with notes of so many records. It is judged whole, counted and noted, the rooms are tested once, and then the records are
 // filled in; so a refusal leaves both tables as they were.
+#![tactic(auto)]
+
 ghost use Rattle.std.specs.Prelude.{◌≤◌, length};
 ghost use Rattle.octet_classes.specs.Classes.{Classes};
 ghost use Rattle.outcomes.specs.Number.{limit};

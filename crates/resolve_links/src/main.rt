@@ -2,6 +2,8 @@
 // program's argument.
 ghost use Rattle.io.specs.Counts.{IsPrefixLen as Within};
 
+use std::env::{Env, FillError};
+
 // Room for the longest field value, the LF behind it, and one octet more, which tells that there is too much.
 const INPUT: usize = answers::LIMIT + 2;
 
@@ -16,26 +18,32 @@ const PARAMS: usize = 1024 * records::PARAM_SLOTS;
 // Room for a line with the longest target and the longest context, or for one without them.
 const LINE: usize = 2 * answers::LIMIT + 160;
 
-// Puts the base at the start of the buffer, and answers its length. Unless there is one argument, the base is empty; one that doesn't fit
-// fills the buffer, which tells that it is too long.
-fn read_base(room: &mut [u8]) -> usize
-    ensures { Within result room.new }
-{
-    if os::arg_count() != 2 {
-        return 0;
-    }
-    let n = os::arg(1, room);
-    if os::errno() == libc::ENAMETOOLONG {
-        return room.len();
-    }
-    n
+// Whether there is an argument of that number; the program's name has number 0.
+fn has_arg<R: Env>(rt: &R, i: usize) -> bool {
+    let mut one = [0u8; 1];
+    !matches!(rt.arg(i, &mut one), Err(FillError::NotPresent))
 }
 
-fn main() {
+// Puts the base at the start of the buffer, and answers its length. Unless there is one argument, the base is empty; one that doesn't fit
+// fills the buffer, which tells that it is too long.
+fn read_base<R: Env>(rt: &R, room: &mut [u8]) -> usize
+    ensures { Within result room.new }
+{
+    if has_arg(rt, 2) {
+        return 0;
+    }
+    match rt.arg(1, room) {
+        Ok(n) => n,
+        Err(FillError::TooLong) => room.len(),
+        Err(FillError::NotPresent) => 0,
+    }
+}
+
+fn main(rt: HostRuntime) {
     let mut input = [0u8; INPUT];
     let n = io::read_full(0, &mut input);
     let mut base = [0u8; BASE];
-    let m = read_base(&mut base);
+    let m = read_base(&rt, &mut base);
     let mut links = [0usize; LINKS];
     let mut params = [0usize; PARAMS];
     let mut target = [0u8; answers::LIMIT];

@@ -1,4 +1,6 @@
 // The line of a link that is resolved, put into a buffer. Nothing is written out here.
+#![tactic(auto)]
+
 ghost use Rattle.std.specs.Prelude.{◌+◌, ◌≤◌, length};
 ghost use Rattle.kinds.specs.Put.{Put};
 ghost use Rattle.resolved_lines.specs.ResolvedLine.{resolved_line};

@@ -1,4 +1,6 @@
 // A result laid out in parts of a base and of a text with the reference: measured first, then written once.
+#![tactic(auto)]
+
 ghost use Rattle.std.specs.Prelude.{◌≡◌, ◌-◌, ◌≤◌, ◌++◌, length};
 ghost use Rattle.kinds.specs.Put.{Put};
 ghost use Rattle.resolution.specs.Walking.{run, at_end};

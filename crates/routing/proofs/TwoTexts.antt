@@ -2,7 +2,7 @@
 -- second too. Assumes nothing.
 use Prim.Native.Nat.{ℕ}
 use native.Mathlib.Omega.{arith}
-use mathlib.Core.Path.{◌≡◌, refl, sym, ap, ◌∙◌}
+use mathlib.Core.Path.{◌≡◌, refl, sym, ap, ◌∙◌, subst₂}
 use mathlib.Core.Bool.{Bool, true, false, ◌&&◌}
 use mathlib.Core.List.{List, [], ◌∷◌, ◌++◌}
 use borrow.Author.Tests.{eqb-true, eqb-false}
@@ -48,7 +48,9 @@ trimming (a ∷ []) v k = without_dot a [] v (λ z. absurd (omega (arith, k, z))
 trimming (a ∷ b ∷ []) v k = go (eqb a 46) refl (trimming [] v tt)
   where
     go : (z : Bool) → eqb a 46 ≡ z → Trimming [] v → Trimming (a ∷ b ∷ []) v
-    go true e m = goes (a ∷ b ∷ []) [] v (rw (eqb-true a 46 e, k) refl) (rw (eqb-true a 46 e, k) (slash_goes v)) m
+    go true e m =
+        goes (a ∷ b ∷ []) [] v (rw (eqb-true a 46 e, k) refl)
+        (subst₂ (λ (x y : ℕ). trimmed ((x ∷ y ∷ []) ++ v) ≡ trimmed v) (sym (eqb-true a 46 e)) (sym k) (slash_goes v)) m
     go false e m = without_dot a (b ∷ []) v (eqb-false a 46 e)
 trimming (a ∷ b ∷ c ∷ w) v k =
     go (eqb a 46 && eqb b 47) refl (eqb a 46 && eqb b 46 && eqb c 47) refl (trimming (c ∷ w) v k) (trimming w v (closed_behind c w k))

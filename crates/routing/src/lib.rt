@@ -1,4 +1,6 @@
 // Where the octets of a resolved reference stand (RFC 3986, section 5.2): in the base, and in the text with the reference.
+#![tactic(auto)]
+
 ghost use Rattle.std.specs.Prelude.{◌≡◌, ◌<◌, [], ◌∷◌, length};
 ghost use Rattle.tables.specs.Good.{InText};
 ghost use Rattle.references.proofs.Clear.{Free};

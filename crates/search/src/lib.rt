@@ -1,4 +1,6 @@
 // Search: the lowest link number of a table that has a relation.
+#![tactic(auto)]
+
 ghost use Rattle.octets.specs.declared.editions.Edition.TheVariants.{Rfc5988};
 ghost use Rattle.tables.specs.Table.{table_of};
 ghost use Rattle.outcomes.specs.Usable.{Usable};

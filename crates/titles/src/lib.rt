@@ -1,5 +1,7 @@
 // Titles: that of a link, which its `title*` gives or its `title` means, and what one extended value gives. An extended value is judged
 // and measured, and a `title` measured, before anything is written.
+#![tactic(auto)]
+
 ghost use Rattle.std.specs.Prelude.{◌≡◌, ◌≤◌, length};
 ghost use Rattle.octets.specs.declared.editions.Edition.TheVariants.{Rfc5988};
 ghost use Rattle.tables.specs.Table.{table_of};

@@ -1,5 +1,7 @@
 // Lists the headers on standard input, one a line, in each edition, and headers at the edges of lengths and rooms. The name of a case
 // stands before its listing, behind `#`.
+#![tactic(auto)]
+
 ghost use Rattle.std.specs.Prelude.{◌≡◌, ◌+◌, ◌<◌, ◌≤◌, length};
 ghost use Rattle.outcomes.specs.Number.{limit};
 

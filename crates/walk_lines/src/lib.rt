@@ -1,4 +1,6 @@
 // The line of a walk's answer, put into a buffer. Nothing is written out here.
+#![tactic(auto)]
+
 ghost use Rattle.std.specs.Prelude.{[], ◌∷◌, ◌++◌, ◌+◌, ◌≤◌, length};
 ghost use Rattle.kinds.specs.Put.{Put};
 ghost use Rattle.columns.specs.Line.{tab};

@@ -2,8 +2,14 @@
 // that of the crate `walk_listing`; here the file and the words are read, and the line is printed.
 ghost use Rattle.io.specs.Counts.{IsPrefixLen as Within};
 
-use libc::STDOUT_FILENO;
+use std::env::{Env, FillError};
+use std::fs::File;
+use std::io::Read;
+use std::os::fd::AsRawFd;
+use std::str;
 use walk_listing::tell_walk;
+
+const STDOUT: i32 = 1;
 
 // Room for the longest catalogue, and one octet more, which tells that there is too much.
 const TEXT: usize = catalogue_check::CATALOGUE + 1;
@@ -19,39 +25,52 @@ const PARAMS: usize = 1024 * records::PARAM_SLOTS;
 // Room for a line with the longest URI.
 const LINE: usize = TEXT + walk_lines::BESIDE_URI;
 
-// Puts the word for the steps at the start of the buffer, and answers its length. Unless there are three arguments, the word is empty, and
-// so is one that doesn't fit.
-fn read_steps(room: &mut [u8]) -> usize
+// Puts an argument at the start of the buffer, and answers its length. One that is missing is empty, and so is one that doesn't fit.
+fn read_word<R: Env>(rt: &R, i: usize, room: &mut [u8]) -> usize
     ensures { Within result room.new }
 {
-    if os::arg_count() != 4 {
+    rt.arg(i, room).unwrap_or(0)
+}
+
+// Whether there is an argument of that number; the program's name has number 0.
+fn has_arg<R: Env>(rt: &R, i: usize) -> bool {
+    let mut one = [0u8; 1];
+    !matches!(rt.arg(i, &mut one), Err(FillError::NotPresent))
+}
+
+// Puts the word for the steps at the start of the buffer, and answers its length. Unless there are three arguments, the word is empty, and
+// so is one that doesn't fit.
+fn read_steps<R: Env>(rt: &R, room: &mut [u8]) -> usize
+    ensures { Within result room.new }
+{
+    if has_arg(rt, 4) {
         return 0;
     }
-    os::arg(3, room)
+    read_word(rt, 3, room)
 }
 
 // Whether nothing is left to read. A read that fails has something left.
-fn is_at_end(fd: i32) -> bool {
+fn is_at_end(file: &mut File) -> bool {
     let mut one = [0u8; 1];
-    libc::read(fd, &mut one) == 0
+    matches!(file.read(&mut one), Ok(0))
 }
 
 fn print_unread() {
-    io::write_all(STDOUT_FILENO, b"unread\n");
+    io::write_all(STDOUT, b"unread\n");
 }
 
 // Reads the file and the words, and prints the walk's line.
-fn print_walk(fd: i32) {
+fn print_walk<R: Env>(rt: &R, file: &mut File) {
     let mut text = [0u8; TEXT];
-    let n = io::read_full(fd, &mut text);
-    if n < TEXT && !is_at_end(fd) {
+    let n = io::read_full(file.as_raw_fd(), &mut text);
+    if n < TEXT && !is_at_end(file) {
         print_unread();
         return;
     }
     let mut start = [0u8; walk_words::START_DIGITS];
-    let i = os::arg(2, &mut start);
+    let i = read_word(rt, 2, &mut start);
     let mut steps = [0u8; STEPS];
-    let k = read_steps(&mut steps);
+    let k = read_steps(rt, &mut steps);
     let mut links = [0usize; LINKS];
     let mut params = [0usize; PARAMS];
     let mut work = [0u8; answers::LIMIT];
@@ -65,17 +84,18 @@ fn print_walk(fd: i32) {
         &mut work,
         &mut line,
     );
-    io::write_all(STDOUT_FILENO, &line[..m]);
+    io::write_all(STDOUT, &line[..m]);
 }
 
-fn main() {
+fn main(rt: HostRuntime) {
     let mut path = io::buffer();
-    let n = os::arg(1, &mut path);
-    let fd = os::open_read(&path[..n]);
-    if fd < 0 {
+    let n = read_word(&rt, 1, &mut path);
+    let Ok(name) = str::from_utf8(&path[..n]) else {
         print_unread();
         return;
+    };
+    match File::open(&rt, name) {
+        Ok(mut file) => print_walk(&rt, &mut file),
+        Err(_) => print_unread(),
     }
-    print_walk(fd);
-    libc::close(fd);
 }

@@ -1,5 +1,7 @@
 // Writes a table in its written form. Relations are asked of every link, then whether the form fits the limit and the room, and then it
 // is written; so a refusal leaves the buffer as it was.
+#![tactic(auto)]
+
 ghost use Rattle.octets.specs.declared.editions.Edition.TheVariants.{Rfc5988};
 ghost use Rattle.answers.specs.Length.{length_numbers, length_out};
 ghost use Rattle.outcomes.specs.Usable.{Usable};

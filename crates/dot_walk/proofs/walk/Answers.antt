@@ -10,13 +10,12 @@ use Rattle.dot_walk.proofs.Leftwards.{kept_small, pending_small, run_left}
 use Rattle.dot_walk.proofs.walk.Goals as goal
 
 pub loop-i-init : goal.loop-i-init
-loop-i-init c =
-    let p = c.requires in (
-      p.0.0.ordered,
-      omega arith,
-      sym
-          (ap (λ w. run w c.args.begun) (bare_of_empty c.args.s.now c.args.part.to.0)),
-    )
+loop-i-init c = (
+  c.requires.in_text.0.ordered,
+  omega arith,
+  sym
+      (ap (λ w. run w c.args.begun) (bare_of_empty c.args.s.now c.args.part.to.0)),
+)
 
 pub overflow_sub-i : goal.overflow_sub-i
 overflow_sub-i c = omega (arith, c.loop-i-test.true)
@@ -24,19 +23,17 @@ overflow_sub-i c = omega (arith, c.loop-i-test.true)
 pub bounds-s-i : goal.bounds-s-i
 bounds-s-i c =
     let loop' = c.loop-i in
-    let asked = c.requires in
-    omega (arith, c.loop-i-test.true, loop'.invariant.1, asked.0.0.inside)
+    omega (arith, c.loop-i-test.true, loop'.invariant.1, c.requires.in_text.0.inside)
 
 pub passed-t-requires : goal.passed-t-requires
 passed-t-requires c =
     let loop' = c.loop-i in
-    let asked = c.requires in
     let given = c.args in
     let i = loop'.invariant in
     let s = given.s.now in
     let to = given.part.to.0 in
-    let k = kept_small s to given.begun asked.0.0.inside asked.0.1 asked.1.0 asked.1.1 loop'.i in
-    let q = pending_small s to given.begun asked.0.0.inside asked.0.1 asked.1.0 asked.1.1 loop'.i in
+    let k = kept_small s to given.begun c.requires.in_text.0.inside c.requires.in_text.1 c.requires.kept_bound.0 c.requires.kept_bound.1 loop'.i in
+    let q = pending_small s to given.begun c.requires.in_text.0.inside c.requires.in_text.1 c.requires.kept_bound.0 c.requires.kept_bound.1 loop'.i in
     (omega (arith, q, ap (λ (t : Walk). t.pending) i.2), omega (arith, k, ap (λ (t : Walk). t.kept) i.2))
 
 pub loop-i-smaller : goal.loop-i-smaller
@@ -48,11 +45,10 @@ pub loop-i-preserved : goal.loop-i-preserved
 loop-i-preserved c =
     let test = c.loop-i-test in
     let loop' = c.loop-i in
-    let asked = c.requires in
     let given = c.args in
     let i = loop'.invariant in
     let h = test.true in
-    let left = run_left given.s.now given.part.to.0 given.begun loop'.i (omega (arith, h)) i.1 asked.0.0.inside in
+    let left = run_left given.s.now given.part.to.0 given.begun loop'.i (omega (arith, h)) i.1 c.requires.in_text.0.inside in
     (omega (arith, h), omega (arith, i.1), left i.2 c.passed-t.ensures)
 
 pub returns : goal.returns

@@ -10,8 +10,7 @@ use Rattle.dot_walk.proofs.write.Goals as goal
 
 pub loop-i-init : goal.loop-i-init
 loop-i-init c =
-    let asked = c.requires in
-    w.begin _ _ _ _ _ _ asked.0.0.ordered asked.1.1.0
+    w.begin _ _ _ _ _ _ c.requires.in_text.0.ordered c.requires.begun_bound.0
 
 pub overflow_sub-i : goal.overflow_sub-i
 overflow_sub-i c = omega (arith, c.loop-i-test.true)
@@ -19,19 +18,17 @@ overflow_sub-i c = omega (arith, c.loop-i-test.true)
 pub bounds-s-i : goal.bounds-s-i
 bounds-s-i c =
     let loop' = c.loop-i in
-    let asked = c.requires in
-    omega (arith, c.loop-i-test.true, loop'.invariant.high, asked.0.0.inside)
+    omega (arith, c.loop-i-test.true, loop'.invariant.high, c.requires.in_text.0.inside)
 
 pub passed-n-requires : goal.passed-n-requires
 passed-n-requires c =
     let loop' = c.loop-i in
-    let asked = c.requires in
     let given = c.args in
     let i = loop'.invariant in
     let s = given.s.now in
     let to = given.part.to.0 in
-    let k = kept_small s to given.begun asked.0.0.inside asked.0.1 asked.1.0.0 asked.1.0.1 loop'.i in
-    let q = pending_small s to given.begun asked.0.0.inside asked.0.1 asked.1.0.0 asked.1.0.1 loop'.i in
+    let k = kept_small s to given.begun c.requires.in_text.0.inside c.requires.in_text.1 c.requires.kept_bound.0 c.requires.kept_bound.1 loop'.i in
+    let q = pending_small s to given.begun c.requires.in_text.0.inside c.requires.in_text.1 c.requires.kept_bound.0 c.requires.kept_bound.1 loop'.i in
     (omega (arith, q, ap (λ (t : Walk). t.pending) i.state), omega (arith, k, ap (λ (t : Walk). t.kept) i.state))
 
 pub overflow_sub-right : goal.overflow_sub-right
@@ -44,25 +41,23 @@ overflow_sub-n c =
     let passed' = c.passed-n in
     let test = c.loop-i-test in
     let loop' = c.loop-i in
-    let asked = c.requires in
-    omega (arith, w.grows _ _ _ _ _ _ passed'.result loop'.invariant test.true asked.0.0.inside passed'.ensures)
+    omega (arith, w.grows _ _ _ _ _ _ passed'.result loop'.invariant test.true c.requires.in_text.0.inside passed'.ensures)
 
 pub put_before-requires : goal.put_before-requires
 put_before-requires c =
     let passed' = c.passed-n in
     let test = c.loop-i-test in
     let loop' = c.loop-i in
-    let asked = c.requires in
     let given = c.args in
     let i = loop'.invariant in
     let h = test.true in
-    let l = asked.0.0.inside in
+    let l = c.requires.in_text.0.inside in
     let t = loop'.t in
     let n = passed'.result in
     let g = w.grows _ _ _ _ _ _ n i h l passed'.ensures in
     let r = w.room_left _ _ _ _ _ _ n i h l passed'.ensures in
     let three = added_three t (get_or given.s.now (loop'.i - 1) 0) in
-    (omega (arith, g, three), omega (arith, g, r), omega (arith, w.same_length _ _ _ _ _ _ i, asked.1.1.1))
+    (omega (arith, g, three), omega (arith, g, r), omega (arith, w.same_length _ _ _ _ _ _ i, c.requires.begun_bound.1))
 
 pub loop-i-smaller : goal.loop-i-smaller
 loop-i-smaller c =
@@ -75,8 +70,7 @@ loop-i-preserved c =
     let passed' = c.passed-n in
     let test = c.loop-i-test in
     let loop' = c.loop-i in
-    let asked = c.requires in
-    w.again _ _ _ _ _ _ passed'.result loop'.invariant test.true asked.0.0.inside passed'.ensures put-before'.ensures
+    w.again _ _ _ _ _ _ passed'.result loop'.invariant test.true c.requires.in_text.0.inside passed'.ensures put-before'.ensures
 
 pub shape_of-out : goal.shape_of-out
 shape_of-out c = w.same_length _ _ _ _ _ _ c.loop-i.invariant
