@@ -1,5 +1,7 @@
 // The line of a link that is resolved on a base, with its number, its target and its context, or why it is refused. Nothing is written out
 // here.
+#![tactic(auto)]
+
 ghost use Rattle.std.specs.Prelude.{◌+◌, ◌≤◌, length};
 ghost use Rattle.io.specs.Counts.{IsPrefixLen as Within};
 ghost use Rattle.kinds.specs.Put.{Put};

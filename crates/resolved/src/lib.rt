@@ -1,5 +1,7 @@
 // A link's resolved context: what its `anchor` means, resolved on the base; without one, the base without its fragment, which is what the
 // empty reference gives. Nothing is copied to look at it.
+#![tactic(auto)]
+
 ghost use Rattle.std.specs.Prelude.{[], ◌∷◌, ◌≤◌, ◌<◌, length};
 ghost use Rattle.octets.specs.declared.editions.Edition.TheVariants.{Rfc5988};
 ghost use Rattle.octet_classes.specs.Classes.{Classes};

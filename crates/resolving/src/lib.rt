@@ -1,5 +1,7 @@
 // Resolving a reference on a base. Both are judged, the result is measured, and then it is written once; a path may be longer on the way
 // than the result, and that asks for no room.
+#![tactic(auto)]
+
 ghost use Rattle.std.specs.Prelude.{[], ◌∷◌, ◌≤◌, length};
 ghost use Rattle.tables.specs.Good.{InText};
 ghost use Rattle.resolution.specs.Resolve.{resolved};

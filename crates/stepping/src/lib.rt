@@ -1,5 +1,7 @@
 // A step from a pack of a catalogue. The pack's Link value is read once more, since the work tables hold one table at a time; that it is
 // accepted is known, and nothing else of the catalogue is looked at again but the URIs.
+#![tactic(auto)]
+
 ghost use Rattle.std.specs.Prelude.{◌≡◌, [], ◌∷◌, ◌≤◌, ◌<◌, length};
 ghost use Rattle.octets.specs.declared.editions.Edition.TheVariants.{Rfc5988};
 ghost use Rattle.tables.specs.Table.{table_of};

@@ -1,4 +1,6 @@
 // The pack that a link's target leads to.
+#![tactic(auto)]
+
 ghost use Rattle.std.specs.Prelude.{[], ◌∷◌, ◌≤◌, length};
 ghost use Rattle.tables.specs.Good.{InText};
 ghost use Rattle.grammar.specs.Targets.{ReferenceAt};

@@ -1,0 +1,5 @@
+-- The numbers are those of such an answer.
+use Rattle.link_lines.proofs.refused_line.Goals as goal
+
+pub returns : goal.returns
+returns c = rw c.numbers.ensures at c.refusal_line.ensures

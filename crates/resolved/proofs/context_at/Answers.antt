@@ -1,0 +1,75 @@
+-- The anchor is looked for, and what it means is resolved; without one nothing is.
+use native.Mathlib.Omega.{arith}
+use borrow.Author.Tests.{not-true, not-false}
+use Rattle.bare.proofs.Unescaped.{uri_free}
+use Rattle.tables.proofs.InGood.{link_slots}
+use Rattle.outcomes.specs.ResolvedContext.{no_such_link, bad_base}
+use Rattle.judging.proofs.Told.{uri_told, uri_denied}
+use Rattle.context.proofs.Anchored.{listed_here}
+use Rattle.resolved.proofs.LinkContext.{anchor_inside, told, untold}
+use Rattle.resolved.proofs.context_at.Goals as goal
+
+pub returns-then-link-counts : goal.returns-then-link-counts
+returns-then-link-counts c = no_such_link c.if-link-counts.true
+
+pub returns-then-not-is_uri : goal.returns-then-not-is_uri
+returns-then-not-is_uri c =
+    let if1' = c.if-link-counts in
+    bad_base if1'.false
+    (uri_denied c.is_uri.result c.is_uri.ensures (not-true c.is_uri.result c.if-not-is_uri.true-raw))
+
+pub link_at-l-requires : goal.link_at-l-requires
+link_at-l-requires c =
+    let if1' = c.if-link-counts in
+    link_slots c.requires.usable.0.good if1'.false
+
+pub first_of-anchor-requires : goal.first_of-anchor-requires
+first_of-anchor-requires c =
+    let if1' = c.if-link-counts in
+    (listed_here c.requires.usable.0 if1'.false c.link_at-l.ensures).room
+
+pub put_resolved-requires : goal.put_resolved-requires
+put_resolved-requires c =
+    let is-uri' = c.is_uri in
+    let given = c.args in
+    let b = uri_told is-uri'.result is-uri'.ensures (not-false is-uri'.result c.if-not-is_uri.false-raw) in
+    record {
+      in_text = (record { ordered = omega arith; inside = omega arith }, c.requires.usable.0.short);
+      free = (uri_free given.base.now b, c.requires.base_len_bound);
+    }
+
+pub anchored-requires : goal.anchored-requires
+anchored-requires c =
+    let first-of' = c.first_of-anchor in
+    let link-at' = c.link_at-l in
+    let is-uri' = c.is_uri in
+    let if1' = c.if-link-counts in
+    let given = c.args in
+    let b = uri_told is-uri'.result is-uri'.ensures (not-false is-uri'.result c.if-not-is_uri.false-raw) in
+    let i = anchor_inside c.requires.usable.0 if1'.false link-at'.ensures first-of'.result first-of'.ensures c.in-Found.is in
+    record {
+      in_text = (i, c.requires.usable.0.short, c.requires.usable.1);
+      free = (uri_free given.base.now b, c.requires.base_len_bound);
+    }
+
+pub returns-in-Absent : goal.returns-in-Absent
+returns-in-Absent c =
+    let put-resolved' = c.put_resolved in
+    let first-of' = c.first_of-anchor in
+    let link-at' = c.link_at-l in
+    let is-uri' = c.is_uri in
+    let if1' = c.if-link-counts in
+    let b = uri_told is-uri'.result is-uri'.ensures (not-false is-uri'.result c.if-not-is_uri.false-raw) in
+    untold c.requires.usable.0 if1'.false link-at'.ensures first-of'.result first-of'.ensures c.in-Absent.is b
+    put-resolved'.ensures
+
+pub returns-in-Found : goal.returns-in-Found
+returns-in-Found c =
+    let anchored' = c.anchored in
+    let first-of' = c.first_of-anchor in
+    let link-at' = c.link_at-l in
+    let is-uri' = c.is_uri in
+    let if1' = c.if-link-counts in
+    let b = uri_told is-uri'.result is-uri'.ensures (not-false is-uri'.result c.if-not-is_uri.false-raw) in
+    told c.requires.usable.0 if1'.false link-at'.ensures first-of'.result first-of'.ensures c.in-Found.is b
+    anchored'.ensures
