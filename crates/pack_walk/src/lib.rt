@@ -1,4 +1,6 @@
 // A walk over packs that are known: so many steps by one relation, from pack to pack.
+#![tactic(auto)]
+
 ghost use Rattle.std.specs.Prelude.{◌+◌, ◌≤◌, ◌<◌, length};
 ghost use Rattle.outcomes.specs.Number.{limit};
 ghost use Rattle.catalogues.specs.Outcome.{step_limit};

@@ -1,5 +1,7 @@
 // Lists the links of the Link field value on standard input, without the LF that ends it, if there, resolved on the base that is the
 // program's argument.
+#![tactic(auto)]
+
 ghost use Rattle.io.specs.Counts.{IsPrefixLen as Within};
 
 use std::env::{Env, FillError};

@@ -1,5 +1,7 @@
 // Resolves the links of a header on a base, and lists them on standard output: each with its number, its target and its context, or why it
 // is refused. The lines are those of the crate `link_lines`; what is done here is to hand them out.
+#![tactic(auto)]
+
 ghost use Rattle.std.specs.Prelude.{◌+◌, ◌≤◌, length};
 ghost use Rattle.outcomes.specs.Read.{Read};
 ghost use Rattle.answers.specs.Read.{read_numbers, read_out};

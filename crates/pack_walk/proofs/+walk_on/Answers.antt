@@ -1,0 +1,40 @@
+-- Each step taken leaves the rest of the walk to the pack reached, where the packs are known as before.
+use native.Mathlib.Omega.{arith}
+use Rattle.paces.specs.Paces.{relation_on}
+use Rattle.pack_walk.proofs.Going.{no_steps, stops, next_below, goes, known_alike, walks_alike}
+use Rattle.pack_walk.proofs.+walk_on.Goals as goal
+
+pub returns-then-left-eq0 : goal.returns-then-left-eq0
+returns-then-left-eq0 t c =
+    let g = c.args in no_steps g.s.now g.index.now g.count _ _ (relation_on g.way) g.pack g.taken c.if-left-eq0.true
+
+pub walk_on-requires : goal.walk_on-requires
+walk_on-requires t c =
+    let g = c.args in
+    let kept = c.step-stepped.auto in
+    let below = next_below g.s.now g.index.now g.count _ _ (relation_on g.way) g.pack g.taken c.step-stepped.result
+    c.step-stepped.ensures c.requires.0 c.in-To.is
+    in (
+      omega (arith, c.decreases, c.if-left-eq0.false),
+      (
+        known_alike kept.links kept.params c.requires.0,
+        below,
+        omega (arith, kept.work, c.requires.2),
+        omega (arith, c.requires.3, c.if-left-eq0.false),
+      ),
+    )
+
+pub returns-in-Stop : goal.returns-in-Stop
+returns-in-Stop t c =
+    let g = c.args in
+    stops g.s.now g.index.now g.count _ _ (relation_on g.way) g.pack g.taken c.step-stepped.result c.step-stepped.ensures
+    g.left c.if-left-eq0.false c.in-Stop.is
+
+pub returns-in-To : goal.returns-in-To
+returns-in-To t c =
+    let g = c.args in
+    let kept = c.step-stepped.auto in
+    let on = c.walk_on in
+    goes g.s.now g.index.now g.count _ _ (relation_on g.way) g.pack g.taken c.step-stepped.result c.step-stepped.ensures
+    g.left c.if-left-eq0.false c.in-To.is on.result
+    (walks_alike kept.links kept.params (relation_on g.way) _ _ _ on.result on.ensures)
