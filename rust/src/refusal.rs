@@ -71,6 +71,7 @@ impl Refusal {
     ///
     /// assert_eq!(Refusal::TooLong.number(), 1);
     /// assert_eq!(Refusal::Malformed { place: 13 }.number(), 2);
+    /// assert_eq!(Refusal::BadReference.number(), 13);
     /// assert_eq!(Refusal::BadCatalogue.number(), 15);
     /// ```
     pub const fn number(self) -> usize {
@@ -131,7 +132,7 @@ impl fmt::Display for Refusal {
             Refusal::BadTable => "not a good table",
             Refusal::NoRelation => "a link without a relation",
             Refusal::NoOutputRoom => "output buffer too short",
-            Refusal::NoSuchLink => "no such link or pack",
+            Refusal::NoSuchLink => "no such link",
             Refusal::NotFound => "not found",
             Refusal::UnknownEdition => "unknown edition",
             Refusal::BadExtended => "wrong extended value",

@@ -12,7 +12,7 @@ fn numbers_and_words() {
         (Refusal::BadTable, "not a good table"),
         (Refusal::NoRelation, "a link without a relation"),
         (Refusal::NoOutputRoom, "output buffer too short"),
-        (Refusal::NoSuchLink, "no such link or pack"),
+        (Refusal::NoSuchLink, "no such link"),
         (Refusal::NotFound, "not found"),
         (Refusal::UnknownEdition, "unknown edition"),
         (Refusal::BadExtended, "wrong extended value"),
