@@ -1,4 +1,6 @@
 // A walk through the packs of a catalogue.
+#![tactic(auto)]
+
 ghost use Rattle.std.specs.Prelude.{◌≤◌};
 ghost use Rattle.catalogues.specs.Outcome.{step_limit, Walk, room_of, LeftFree};
 ghost use Rattle.answers.specs.Walk.{walk_numbers};
