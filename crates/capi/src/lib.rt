@@ -1,5 +1,7 @@
 // The entries for C. Each asks an entry of the library and hands on the numbers of its answer. A slice is passed as a pointer and
 // a count, and bare numbers become link numbers and counts here.
+#![tactic(auto)]
+
 ghost use Rattle.std.specs.Prelude.{cond, ◌≡◌};
 ghost use Rattle.answers.specs.Feed.{feed_out, state_of};
 ghost use Rattle.answers.specs.Length.{length_out};

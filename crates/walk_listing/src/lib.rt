@@ -1,4 +1,6 @@
 // A walk that is asked for by words, and the line that tells it. Nothing is written out here.
+#![tactic(auto)]
+
 ghost use Rattle.std.specs.Prelude.{◌+◌, ◌≤◌, length};
 ghost use Rattle.io.specs.Counts.{IsPrefixLen as Within};
 ghost use Rattle.catalogues.specs.Outcome.{room_of};

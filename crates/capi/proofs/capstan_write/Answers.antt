@@ -1,0 +1,6 @@
+-- The numbers are those of the entry's answer.
+use Rattle.capi.proofs.capstan_write.Goals as goal
+
+pub returns : goal.returns
+returns c =
+    rw c.numbers.ensures (rw c.counts_of-counts.ensures at c.write.ensures)
