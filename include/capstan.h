@@ -5,8 +5,8 @@
  * Every function is proved to answer as the definitions in crates/outcomes/specs settle it, the code of a name as that in
  * crates/grammar/specs/Kept.antt does, a comparison as those in crates/octets/specs/Fold.antt do, and a walk as those in
  * crates/catalogues/specs do, for every input; of a feeding's state that isn't as it was handed out they say what still holds. It
- * allocates nothing, keeps nothing between calls, calls nothing of the C library, takes less than 8 KiB of stack, a walk less than 48
- * KiB, and may run on several threads at once. Link with libcapstan.a (Linux on x86-64), which ./build-library puts under dist/ beside a
+ * allocates nothing, keeps nothing between calls, calls nothing of the C library but memset, takes less than 8 KiB of stack, a walk less
+ * than 48 KiB, and may run on several threads at once. Link with libcapstan.a (Linux on x86-64), which ./build-library puts under dist/ beside a
  * copy of this file. Octets may be any, NUL too; no text ends with one.
  *
  * What a caller must hold, since nothing checks it:

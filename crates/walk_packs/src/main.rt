@@ -1,5 +1,7 @@
 // walk_packs FILE START STEPS: walks through the packs of the catalogue in a file, and prints the line that tells the walk. What it tells is
 // that of the crate `walk_listing`; here the file and the words are read, and the line is printed.
+#![tactic(auto)]
+
 ghost use Rattle.io.specs.Counts.{IsPrefixLen as Within};
 
 use std::env::{Env, FillError};
