@@ -5,6 +5,8 @@ use mathlib.Core.Path.{◌≡◌, refl, sym, ap, subst, ◌∙◌}
 use mathlib.Core.List.{List}
 use lib.ListN.{length}
 use borrow.Author.Tests.{eqb-false}
+use Rattle.std.specs.Prelude.{Result, Ok, Err}
+use Rattle.std.specs.Result.{is_ok}
 use Rattle.octets.specs.Editions.{further}
 use Rattle.octets.specs.declared.editions.Edition.TheVariants.{Rfc8288}
 use Rattle.grammar.specs.Link.{Link}
@@ -14,13 +16,11 @@ use Rattle.grammar.proofs.Editions.{apart}
 use Rattle.grammar.proofs.Readings.{one_reading}
 use Rattle.outcomes.specs.Read.{ReadOut, ReadIn, too_long, not_derived, no_link_room, no_param_room, reads}
 use Rattle.kinds.specs.declared.Counts.{Counts}
-use Rattle.kinds.specs.declared.Place.{Place}
 use Rattle.answers.specs.Read.{read_numbers, read_out}
-use Rattle.answers.specs.declared.Refusal.{Refusal}
-use Rattle.answers.specs.declared.read_answer.ReadAnswer.{ReadAnswer}
-use Rattle.answers.specs.declared.read_answer.ReadAnswer.TheVariants.{Done, Malformed, Refused}
+use Rattle.answers.specs.declared.read_answer.ReadError.{ReadError}
+use Rattle.answers.specs.declared.read_answer.ReadError.TheVariants.{Malformed, Refused}
 use Rattle.answers.proofs.Refusals.{no_refusal_is_done}
-use Rattle.accepting.specs.Accepted.{Accepted}
+use Rattle.accepting.specs.Accepted.{Accepted, TellsAccepted}
 
 pub read_accepted : {v L P : List ℕ} {o : ReadOut} → ReadIn Rfc8288 v L P o → o.number ≡ 0 → Accepted v (length L) (length P)
 read_accepted (too_long l) e = absurd (omega (arith, e))
@@ -38,16 +38,9 @@ read_refused {v} (no_param_room {K = K} s r l k) n a =
     omega (arith, k, a.param_room, ap count_params (one_reading (further Rfc8288) (apart Rfc8288) v K a.links r a.reading))
 read_refused (reads s r l k) n a = n refl
 
--- the answer, told apart
-module _ {v L P L' P' : List ℕ} {r : ReadAnswer} (h : ReadIn Rfc8288 v L P (read_out (read_numbers r) L' P')) where
-  told : {x : ReadAnswer} → r ≡ x → ReadIn Rfc8288 v L P (read_out (read_numbers x) L' P')
-  told e = subst (λ (y : ReadAnswer). ReadIn Rfc8288 v L P (read_out (read_numbers y) L' P')) e h
-
-  pub done_accepted : {n : Counts} → r ≡ Done n → Accepted v (length L) (length P)
-  done_accepted e = read_accepted (told e) refl
-
-  pub malformed_refused : {p : Place} → r ≡ Malformed p → Accepted v (length L) (length P) → ⊥
-  malformed_refused e = read_refused (told e) (λ z. omega (arith, z))
-
-  pub refusal_refused : {w : Refusal} → r ≡ Refused w → Accepted v (length L) (length P) → ⊥
-  refusal_refused {w} e = read_refused (told e) (eqb-false _ _ (no_refusal_is_done w))
+-- the answer tells it
+pub answer_tells : {v L P L' P' : List ℕ} (r : Result Counts ReadError) → ReadIn Rfc8288 v L P (read_out (read_numbers r) L' P')
+    → TellsAccepted v (length L) (length P) (is_ok r)
+answer_tells (Ok n) h = read_accepted h refl
+answer_tells (Err (Malformed p)) h = read_refused h (λ z. omega (arith, z))
+answer_tells (Err (Refused w)) h = read_refused h (eqb-false _ _ (no_refusal_is_done w))

@@ -4,17 +4,11 @@
 ghost use Rattle.std.specs.Prelude.{length};
 ghost use Rattle.accepting.specs.Accepted.{TellsAccepted};
 
-use answers::read_answer::ReadAnswer;
 use octets::editions::Edition;
 
 // Whether it is, in these tables. What they hold afterwards is free.
 pub fn is_accepted(value: &[u8], links: &mut [usize], params: &mut [usize]) -> bool
     ensures { TellsAccepted value.now (length links.old) (length params.old) result }
 {
-    let answer = reader::read_in(Edition::Rfc8288, value, links, params);
-    match answer {
-        ReadAnswer::Done(_) => true,
-        ReadAnswer::Malformed(_) => false,
-        ReadAnswer::Refused(_) => false,
-    }
+    reader::read_in(Edition::Rfc8288, value, links, params).is_ok()
 }

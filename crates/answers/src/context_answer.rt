@@ -12,11 +12,12 @@ const OF_BASE: usize = 2;
 
 // A part of the text, or the whole base.
 #[derive(Clone, Copy)]
-pub enum ContextAnswer {
+pub enum Context {
     Anchored(Span),
     Base,
-    Refused(Refusal),
 }
+
+pub type ContextAnswer = Result<Context, Refusal>;
 
 #[repr(C)]
 #[derive(Clone, Copy)]
@@ -27,26 +28,26 @@ pub struct ContextNumbers {
     pub end: usize,
 }
 
-impl ContextAnswer {
+impl ContextNumbers {
     // With the length of the base.
-    pub fn numbers(self, base_len: usize) -> ContextNumbers
-        ensures { result ≡ context_numbers (context_out base_len self) }
+    pub fn of(answer: ContextAnswer, base_len: usize) -> ContextNumbers
+        ensures { result ≡ context_numbers (context_out base_len answer) }
     {
-        match self {
-            ContextAnswer::Anchored(span) => ContextNumbers {
+        match answer {
+            Ok(Context::Anchored(span)) => ContextNumbers {
                 number: DONE,
                 source: OF_TEXT,
                 start: span.from.0,
                 end: span.to.0,
             },
-            ContextAnswer::Base => ContextNumbers {
+            Ok(Context::Base) => ContextNumbers {
                 number: DONE,
                 source: OF_BASE,
                 start: 0,
                 end: base_len,
             },
-            ContextAnswer::Refused(why) => ContextNumbers {
-                number: why.number(),
+            Err(why) => ContextNumbers {
+                number: why.into(),
                 source: 0,
                 start: 0,
                 end: 0,

@@ -2,7 +2,8 @@
 ghost use Rattle.std.specs.Prelude.{◌≡◌};
 ghost use Rattle.answers.specs.Feed.{feed_numbers};
 
-use crate::{DONE, MALFORMED, Refusal};
+use crate::read_answer::ReadError;
+use crate::{DONE, MALFORMED};
 use kinds::Place;
 
 // The number of the edition asked for; the phase of reading behind the octets gathered; how many octets counted, at most one past the
@@ -19,12 +20,12 @@ pub struct Feeding {
     pub judged: usize,
 }
 
-// Nothing is wrong with the octets so far, something is and they have this place, or why the feed is refused otherwise; and the next state.
+// Nothing is wrong with the octets so far, something is and they have this place, or why the feed is refused otherwise; and in each
+// case the next state.
 #[derive(Clone, Copy)]
-pub enum FeedAnswer {
-    Begun(Feeding),
-    Malformed(Place, Feeding),
-    Refused(Refusal, Feeding),
+pub struct FeedAnswer {
+    pub told: Result<(), ReadError>,
+    pub next: Feeding,
 }
 
 #[repr(C)]
@@ -35,23 +36,24 @@ pub struct FeedNumbers {
     pub next: Feeding,
 }
 
-impl FeedAnswer {
-    pub fn numbers(self) -> FeedNumbers
-        ensures { result ≡ feed_numbers self }
-    {
-        match self {
-            FeedAnswer::Begun(next) => FeedNumbers {
+impl From<FeedAnswer> for FeedNumbers {
+    ghost from_gives = { λ answer r. r ≡ feed_numbers answer };
+
+    fn from(answer: FeedAnswer) -> FeedNumbers {
+        let next = answer.next;
+        match answer.told {
+            Ok(()) => FeedNumbers {
                 number: DONE,
                 place: 0,
                 next,
             },
-            FeedAnswer::Malformed(place, next) => FeedNumbers {
+            Err(ReadError::Malformed(place)) => FeedNumbers {
                 number: MALFORMED,
                 place: place.0,
                 next,
             },
-            FeedAnswer::Refused(why, next) => FeedNumbers {
-                number: why.number(),
+            Err(ReadError::Refused(why)) => FeedNumbers {
+                number: why.into(),
                 place: 0,
                 next,
             },

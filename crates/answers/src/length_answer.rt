@@ -4,11 +4,7 @@ ghost use Rattle.answers.specs.Length.{length_numbers};
 
 use crate::{DONE, Refusal};
 
-#[derive(Clone, Copy)]
-pub enum LengthAnswer {
-    Wrote(usize),
-    Refused(Refusal),
-}
+pub type LengthAnswer = Result<usize, Refusal>;
 
 #[repr(C)]
 #[derive(Clone, Copy)]
@@ -17,17 +13,17 @@ pub struct LengthNumbers {
     pub length: usize,
 }
 
-impl LengthAnswer {
-    pub fn numbers(self) -> LengthNumbers
-        ensures { result ≡ length_numbers self }
-    {
-        match self {
-            LengthAnswer::Wrote(n) => LengthNumbers {
+impl From<LengthAnswer> for LengthNumbers {
+    ghost from_gives = { λ answer r. r ≡ length_numbers answer };
+
+    fn from(answer: LengthAnswer) -> LengthNumbers {
+        match answer {
+            Ok(n) => LengthNumbers {
                 number: DONE,
                 length: n,
             },
-            LengthAnswer::Refused(why) => LengthNumbers {
-                number: why.number(),
+            Err(why) => LengthNumbers {
+                number: why.into(),
                 length: 0,
             },
         }

@@ -1,5 +1,5 @@
-// What entries answer: an enum for each kind of answer, and for each one function that gives the numbers of its cases. The entries
-// for C and the programs take their numbers from here alone.
+// What entries answer: a result for each kind of answer, whose error tells why the entry refuses, and a struct of the numbers that each
+// is told by. The entries for C and the programs take their numbers from here alone.
 #![tactic(auto)]
 
 ghost use Rattle.std.specs.Prelude.{◌≡◌};
@@ -40,11 +40,11 @@ pub enum Refusal {
     BadCatalogue,
 }
 
-impl Refusal {
-    pub fn number(self) -> usize
-        ensures { result ≡ refusal_number self }
-    {
-        match self {
+impl From<Refusal> for usize {
+    ghost from_gives = { λ why n. n ≡ refusal_number why };
+
+    fn from(why: Refusal) -> usize {
+        match why {
             Refusal::TooLong => 1,
             Refusal::NoLinkRoom => 3,
             Refusal::NoParamRoom => 4,

@@ -1,17 +1,28 @@
 // What reading answers.
 ghost use Rattle.std.specs.Prelude.{◌≡◌};
 ghost use Rattle.answers.specs.Read.{read_numbers};
+ghost use Rattle.answers.specs.declared.read_answer.ReadError.TheVariants.{Refused};
 
 use crate::{DONE, MALFORMED, Refusal};
 use kinds::{Counts, Place};
 
-// Counts of links and kept parameters, the place of a malformed header, or why the header is refused otherwise.
+// The place of a malformed header, or why the header is refused otherwise.
 #[derive(Clone, Copy)]
-pub enum ReadAnswer {
-    Done(Counts),
+pub enum ReadError {
     Malformed(Place),
     Refused(Refusal),
 }
+
+impl From<Refusal> for ReadError {
+    ghost from_gives = { λ why e. e ≡ Refused why };
+
+    fn from(why: Refusal) -> ReadError {
+        ReadError::Refused(why)
+    }
+}
+
+// Counts of links and kept parameters.
+pub type ReadAnswer = Result<Counts, ReadError>;
 
 #[repr(C)]
 #[derive(Clone, Copy)]
@@ -22,25 +33,25 @@ pub struct ReadNumbers {
     pub params: usize,
 }
 
-impl ReadAnswer {
-    pub fn numbers(self) -> ReadNumbers
-        ensures { result ≡ read_numbers self }
-    {
-        match self {
-            ReadAnswer::Done(counts) => ReadNumbers {
+impl From<ReadAnswer> for ReadNumbers {
+    ghost from_gives = { λ answer r. r ≡ read_numbers answer };
+
+    fn from(answer: ReadAnswer) -> ReadNumbers {
+        match answer {
+            Ok(counts) => ReadNumbers {
                 number: DONE,
                 place: 0,
                 links: counts.links,
                 params: counts.params,
             },
-            ReadAnswer::Malformed(place) => ReadNumbers {
+            Err(ReadError::Malformed(place)) => ReadNumbers {
                 number: MALFORMED,
                 place: place.0,
                 links: 0,
                 params: 0,
             },
-            ReadAnswer::Refused(why) => ReadNumbers {
-                number: why.number(),
+            Err(ReadError::Refused(why)) => ReadNumbers {
+                number: why.into(),
                 place: 0,
                 links: 0,
                 params: 0,

@@ -5,11 +5,7 @@ ghost use Rattle.answers.specs.Search.{search_numbers};
 use crate::{DONE, Refusal};
 use kinds::LinkNumber;
 
-#[derive(Clone, Copy)]
-pub enum SearchAnswer {
-    Found(LinkNumber),
-    Refused(Refusal),
-}
+pub type SearchAnswer = Result<LinkNumber, Refusal>;
 
 #[repr(C)]
 #[derive(Clone, Copy)]
@@ -18,17 +14,17 @@ pub struct SearchNumbers {
     pub link: usize,
 }
 
-impl SearchAnswer {
-    pub fn numbers(self) -> SearchNumbers
-        ensures { result ≡ search_numbers self }
-    {
-        match self {
-            SearchAnswer::Found(link) => SearchNumbers {
+impl From<SearchAnswer> for SearchNumbers {
+    ghost from_gives = { λ answer r. r ≡ search_numbers answer };
+
+    fn from(answer: SearchAnswer) -> SearchNumbers {
+        match answer {
+            Ok(link) => SearchNumbers {
                 number: DONE,
                 link: link.0,
             },
-            SearchAnswer::Refused(why) => SearchNumbers {
-                number: why.number(),
+            Err(why) => SearchNumbers {
+                number: why.into(),
                 link: 0,
             },
         }

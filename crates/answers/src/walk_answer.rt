@@ -14,11 +14,11 @@ pub enum End {
     NoPack,
 }
 
-impl End {
-    pub fn number(self) -> usize
-        ensures { result ≡ end_of self }
-    {
-        match self {
+impl From<End> for usize {
+    ghost from_gives = { λ end n. n ≡ end_of end };
+
+    fn from(end: End) -> usize {
+        match end {
             End::Arrived => 1,
             End::NoLink => 2,
             End::NoTarget => 3,
@@ -27,12 +27,15 @@ impl End {
     }
 }
 
-// How it ended, the last pack and the steps taken, or why it is refused.
+// How it ended, the last pack and the steps taken.
 #[derive(Clone, Copy)]
-pub enum WalkAnswer {
-    Ended(End, PackNumber, usize),
-    Refused(Refusal),
+pub struct Ended {
+    pub end: End,
+    pub pack: PackNumber,
+    pub steps: usize,
 }
+
+pub type WalkAnswer = Result<Ended, Refusal>;
 
 #[repr(C)]
 #[derive(Clone, Copy)]
@@ -43,19 +46,19 @@ pub struct WalkNumbers {
     pub steps: usize,
 }
 
-impl WalkAnswer {
-    pub fn numbers(self) -> WalkNumbers
-        ensures { result ≡ walk_numbers self }
-    {
-        match self {
-            WalkAnswer::Ended(end, pack, steps) => WalkNumbers {
+impl From<WalkAnswer> for WalkNumbers {
+    ghost from_gives = { λ answer r. r ≡ walk_numbers answer };
+
+    fn from(answer: WalkAnswer) -> WalkNumbers {
+        match answer {
+            Ok(ended) => WalkNumbers {
                 number: DONE,
-                end: end.number(),
-                pack: pack.0,
-                steps,
+                end: ended.end.into(),
+                pack: ended.pack.0,
+                steps: ended.steps,
             },
-            WalkAnswer::Refused(why) => WalkNumbers {
-                number: why.number(),
+            Err(why) => WalkNumbers {
+                number: why.into(),
                 end: 0,
                 pack: 0,
                 steps: 0,

@@ -14,15 +14,12 @@ pub fn past(s: &[u8], from: Place, to: Place) -> Place
     requires { InText s.now from.0 to.0 }
     ensures { Past s.now from.0 to.0 result.0 }
 {
-    let mut k = from;
-    while k.0 < to.0 {
-        let i = k.0;
+    for i in from.0..to.0 {
         if s[i] != b'\\' {
-            return k;
+            return Place(i);
         }
-        k = k.next();
     }
-    k
+    to
 }
 
 // How many octets the part has without its backslashes.
@@ -30,12 +27,8 @@ pub fn bare_len(s: &[u8], part: Span) -> usize
     requires { InText s.now part.from.0 part.to.0 }
     ensures { result ≡ length (bare_of s.now part.from.0 part.to.0) }
 {
-    let e = part.to;
     let mut n = 0;
-    let mut k = part.from;
-    while k.0 < e.0 {
-        let at = k.0;
-        k = k.next();
+    for at in part.from.0..part.to.0 {
         if s[at] == b'\\' {
             continue;
         }
@@ -50,12 +43,8 @@ pub fn put_bare(s: &[u8], part: Span, out: &mut [u8], at: OutPlace) -> OutPlace
         × (at.0 + length (bare_of s.now part.from.0 part.to.0) ≤ length out.old) }
     ensures { Put out.old out.new at.0 result.0 (bare_of s.now part.from.0 part.to.0) }
 {
-    let e = part.to;
     let mut to = at;
-    let mut k = part.from;
-    while k.0 < e.0 {
-        let here = k.0;
-        k = k.next();
+    for here in part.from.0..part.to.0 {
         if s[here] == b'\\' {
             continue;
         }

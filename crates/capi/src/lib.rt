@@ -31,6 +31,7 @@ use answers::search_answer::SearchNumbers;
 use answers::walk_answer::WalkNumbers;
 use folding::CompareNumbers;
 use kinds::{Counts, LinkNumber, PackNumber};
+use lent::Table;
 
 // Both counts of a table.
 fn counts_of(links: usize, params: usize) -> Counts
@@ -50,7 +51,7 @@ pub extern "C" fn capstan_read(
     ensures { Read edition header.now links.old params.old
         (read_out result links.new params.new) }
 {
-    reader::read(edition, header, links, params).numbers()
+    reader::read(edition, header, links, params).into()
 }
 
 // Searches a table for a link by relation.
@@ -69,15 +70,21 @@ pub extern "C" fn capstan_search(
         relation.now (search_out result) }
 {
     let counts = counts_of(link_count, param_count);
-    search::search(edition, text, links, params, counts, relation).numbers()
+    let t = Table {
+        text,
+        links,
+        params,
+        counts,
+    };
+    search::search(edition, &t, relation).into()
 }
 
 // Tells where a link's context lies, in the text or in the base.
 #[unsafe(no_mangle)]
-pub extern "C" fn capstan_context<'a>(
+pub extern "C" fn capstan_context(
     edition: usize,
-    text: &'a [u8],
-    base: &'a [u8],
+    text: &[u8],
+    base: &[u8],
     links: &[usize],
     params: &[usize],
     link_count: usize,
@@ -89,9 +96,15 @@ pub extern "C" fn capstan_context<'a>(
         base.now link result }
 {
     let counts = counts_of(link_count, param_count);
+    let t = Table {
+        text,
+        links,
+        params,
+        counts,
+    };
     let number = LinkNumber(link);
-    let answer = context::context_number(edition, text, base, links, params, counts, number);
-    answer.numbers(base.len())
+    let answer = context::context_number(edition, &t, base, number);
+    ContextNumbers::of(answer, base.len())
 }
 
 // Copies the meaning of the value of the parameter at `place` within the link, counted from 0.
@@ -112,8 +125,14 @@ pub extern "C" fn capstan_value(
         link place out.old (length_out result out.new) }
 {
     let counts = counts_of(link_count, param_count);
+    let t = Table {
+        text,
+        links,
+        params,
+        counts,
+    };
     let number = LinkNumber(link);
-    copy::value(edition, text, links, params, counts, number, place, out).numbers()
+    copy::value(edition, &t, number, place, out).into()
 }
 
 // Writes a table.
@@ -132,7 +151,13 @@ pub extern "C" fn capstan_write(
         out.old (length_out result out.new) }
 {
     let counts = counts_of(link_count, param_count);
-    writer::write(edition, text, links, params, counts, out).numbers()
+    let t = Table {
+        text,
+        links,
+        params,
+        counts,
+    };
+    writer::write(edition, &t, out).into()
 }
 
 // Writes the title of a link: what its `title*` gives, or its `title` means.
@@ -152,8 +177,14 @@ pub extern "C" fn capstan_title(
         link out.old (length_out result out.new) }
 {
     let counts = counts_of(link_count, param_count);
+    let t = Table {
+        text,
+        links,
+        params,
+        counts,
+    };
     let number = LinkNumber(link);
-    titles::title(edition, text, links, params, counts, number, out).numbers()
+    titles::title(edition, &t, number, out).into()
 }
 
 // Writes what one extended value gives.
@@ -161,7 +192,7 @@ pub extern "C" fn capstan_title(
 pub extern "C" fn capstan_decode(value: &[u8], out: &mut [u8]) -> LengthNumbers
     ensures { Decode value.now out.old (length_out result out.new) }
 {
-    titles::decode(value, out).numbers()
+    titles::decode(value, out).into()
 }
 
 // Writes what a reference gives on a base.
@@ -169,7 +200,7 @@ pub extern "C" fn capstan_decode(value: &[u8], out: &mut [u8]) -> LengthNumbers
 pub extern "C" fn capstan_resolve(reference: &[u8], base: &[u8], out: &mut [u8]) -> LengthNumbers
     ensures { Resolve reference.now base.now out.old (length_out result out.new) }
 {
-    resolving::resolve(reference, base, out).numbers()
+    resolving::resolve(reference, base, out).into()
 }
 
 // Writes the resolved context of a link.
@@ -190,8 +221,14 @@ pub extern "C" fn capstan_resolved_context(
         base.now link out.old (length_out result out.new) }
 {
     let counts = counts_of(link_count, param_count);
+    let t = Table {
+        text,
+        links,
+        params,
+        counts,
+    };
     let number = LinkNumber(link);
-    resolved::resolved_context(edition, text, base, links, params, counts, number, out).numbers()
+    resolved::resolved_context(edition, &t, base, number, out).into()
 }
 
 // Walks so many steps over a catalogue, from the pack numbered `start`.
@@ -208,7 +245,7 @@ pub extern "C" fn capstan_walk(
     ensures left_free { LeftFree links.old params.old work.old links.new params.new work.new }
 {
     let from = PackNumber(start);
-    walking::walk(catalogue, from, steps, links, params, work).numbers()
+    walking::walk(catalogue, from, steps, links, params, work).into()
 }
 
 // Begins a feeding.
@@ -225,7 +262,7 @@ pub extern "C" fn capstan_feed(state: Feeding, part: &[u8], buffer: &mut [u8]) -
     ensures { Feeds (state_of state) part.now buffer.old (feed_out result buffer.new)
         (state_of result.next) }
 {
-    feeding::feed(state, part, buffer).numbers()
+    feeding::feed(state, part, buffer).into()
 }
 
 // Reads the header whose parts were taken.
@@ -239,7 +276,7 @@ pub extern "C" fn capstan_finish(
     ensures { Finishes (state_of state) buffer.now links.old params.old
         (read_out result links.new params.new) }
 {
-    feeding::finish(state, buffer, links, params).numbers()
+    feeding::finish(state, buffer, links, params).into()
 }
 
 // Tells the code of a parameter's name.
@@ -256,5 +293,5 @@ pub extern "C" fn capstan_compare(a: &[u8], b: &[u8]) -> CompareNumbers
     ensures same_value { result.same ≡ cond (same_folded a.now b.now) 1 0 }
     ensures pairs_value { result.pairs ≡ pairs_compared a.now b.now }
 {
-    folding::compare(a, b).numbers()
+    folding::compare(a, b).into()
 }

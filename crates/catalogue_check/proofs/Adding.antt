@@ -18,13 +18,11 @@ use Rattle.catalogues.specs.Steps.{pack_at}
 use Rattle.catalogues.proofs.NoLf.{value_free}
 use Rattle.catalogues.proofs.Lines.{laid, line_parts, lines_left, LinesLeft, each_append, each_behind, lines_append, uri_no_tab}
 use Rattle.pack_index.specs.declared.PackPlaces.{PackPlaces}
-use Rattle.pack_index.specs.declared.PackFound.{PackFound}
-use Rattle.pack_index.specs.declared.PackFound.TheVariants as found
+use Rattle.std.specs.Prelude.{Option, Some}
+use Rattle.std.specs.Prelude as std
 use Rattle.pack_index.specs.Index.{places_at, numbers_of, Placed, uri_in, value_in, Held, FoundBy}
 use Rattle.pack_index.proofs.Stored.{stored, kept}
 use Rattle.pack_lines.specs.Lines.{IsLine, LineRead, line, none}
-use Rattle.pack_lines.specs.declared.LineFound.{LineFound}
-use Rattle.pack_lines.specs.declared.LineFound.TheVariants.{At, Nowhere}
 use Rattle.accepting.specs.Accepted.{Accepted, TellsAccepted}
 use Rattle.catalogue_check.specs.Checked.{HasPlaces, Indexed, tables, None, Begun}
 use Rattle.catalogues.proofs.Packing.{pack_there, number_below, at_each, last_or_before, distinct_more, distinct_apart}
@@ -183,16 +181,16 @@ pub record LineIn (s : List ℕ) (a : ℕ) (q : PackPlaces) : Type 0 where
   pub placed : Placed s q
   pub line : IsLine (drop a s) (uri_in s q) (value_in s q) (drop (suc q.end.0) s)
 
-pub line_told : {s : List ℕ} {a : ℕ} {r : LineFound} {q : PackPlaces} → LineRead s a r → r ≡ At q → LineIn s a q
+pub line_told : {s : List ℕ} {a : ℕ} {r : Option PackPlaces} {q : PackPlaces} → LineRead s a r → r ≡ Some q → LineIn s a q
 line_told {s} {a} {q = q} h e = go (subst (LineRead s a) e h)
   where
-    go : LineRead s a (At q) → LineIn s a q
+    go : LineRead s a (Some q) → LineIn s a q
     go (line f i l) = record { from = f; placed = i; line = l }
 
-pub none_told : {s : List ℕ} {a : ℕ} {r : LineFound} → LineRead s a r → r ≡ Nowhere → (u v x : List ℕ) → IsLine (drop a s) u v x → ⊥
+pub none_told : {s : List ℕ} {a : ℕ} {r : Option PackPlaces} → LineRead s a r → r ≡ std.None → (u v x : List ℕ) → IsLine (drop a s) u v x → ⊥
 none_told {s} {a} h e = go (subst (LineRead s a) e h)
   where
-    go : LineRead s a Nowhere → (u v x : List ℕ) → IsLine (drop a s) u v x → ⊥
+    go : LineRead s a std.None → (u v x : List ℕ) → IsLine (drop a s) u v x → ⊥
     go (none f) = f
 
 -- the parts of a pack, as the code takes them
@@ -212,10 +210,10 @@ module _ {v w : List ℕ} {l p : ℕ} {r : Bool} (h : TellsAccepted v l p r) (e 
   accepted_denied y a = subst (TellsAccepted v l p) y h (subst (λ (x : List ℕ). Accepted x l p) (sym e) a)
 
 -- what was found among the packs so far
-module _ (s X : List ℕ) (n : ℕ) {w u : List ℕ} {r : PackFound} (h : FoundBy s X n w r) (e : w ≡ u) where
-  pub found_told : {k : PackNumber} → r ≡ found.At k → (k.0 < n) × (same (uri_in s (places_at X k.0)) u ≡ true)
+module _ (s X : List ℕ) (n : ℕ) {w u : List ℕ} {r : Option PackNumber} (h : FoundBy s X n w r) (e : w ≡ u) where
+  pub found_told : {k : PackNumber} → r ≡ Some k → (k.0 < n) × (same (uri_in s (places_at X k.0)) u ≡ true)
   found_told {k} y =
       let t = subst (FoundBy s X n w) y h in (t.0, ap (same (uri_in s (places_at X k.0))) (sym e) ∙ t.1)
 
-  pub nowhere_told : r ≡ found.Nowhere → (j : ℕ) → j < n → same (uri_in s (places_at X j)) u ≡ false
+  pub nowhere_told : r ≡ std.None → (j : ℕ) → j < n → same (uri_in s (places_at X j)) u ≡ false
   nowhere_told y j k = ap (same (uri_in s (places_at X j))) (sym e) ∙ subst (FoundBy s X n w) y h j k

@@ -10,9 +10,8 @@ use Rattle.tables.specs.Good.{each_none}
 use Rattle.kinds.specs.declared.Place.{Place}
 use Rattle.catalogues.specs.Packs.{catalogue_limit, pack_limit, lines_of}
 use Rattle.catalogues.specs.Packs as packs
-use Rattle.catalogue_check.specs.declared.Added.{Added}
-use Rattle.catalogue_check.specs.declared.Added.TheVariants as added
-use Rattle.catalogue_check.specs.declared.Checked.TheVariants as checked
+use Rattle.std.specs.Prelude.{Option, Some}
+use Rattle.std.specs.Prelude as std
 use Rattle.catalogue_check.specs.Checked.{None, Begun, AddedTo, before, wrong, IsChecked, right}
 use Rattle.catalogue_check.specs.Checked as spec
 use Rattle.catalogue_check.proofs.Adding as adding
@@ -56,17 +55,17 @@ module _ {s L₀ P₀ X₀ L P X : List ℕ} {n a : ℕ} (g : SoFar s L₀ P₀ 
   pub asked : Begun s (length L) (length P) X n a
   asked = alike (λ l p. Begun s l p X n a) (sym g.links) (sym g.params) g.begun
 
-  pub too_many : {X' : List ℕ} → a < length s → pack_limit ≤ n → IsChecked s (length L₀) (length P₀) X' checked.Wrong
+  pub too_many : {X' : List ℕ} → a < length s → pack_limit ≤ n → IsChecked s (length L₀) (length P₀) X' std.None
   too_many h m = spec.wrong (adding.too_many g.begun h m)
 
-  pub all_read : length s ≤ catalogue_limit → length s ≤ a → IsChecked s (length L₀) (length P₀) X (checked.Right n)
+  pub all_read : length s ≤ catalogue_limit → length s ≤ a → IsChecked s (length L₀) (length P₀) X (Some n)
   all_read short h =
       let b = g.begun in
       let end : a ≡ length s = omega (arith, h, g.inside) in
       let nothing : drop a s ≡ [] = ap (λ (k : ℕ). drop k s) end ∙ drop-length s in
       let lines : s ≡ lines_of b.packs =
       b.lines ∙ ap (λ (w : List ℕ). lines_of b.packs ++ w) nothing ∙ append-nil (lines_of b.packs) in
-      subst (λ (k : ℕ). IsChecked s (length L₀) (length P₀) X (checked.Right k)) b.count
+      subst (λ (k : ℕ). IsChecked s (length L₀) (length P₀) X (Some k)) b.count
       (right b.packs
       (record {
         short = short;
@@ -78,29 +77,29 @@ module _ {s L₀ P₀ X₀ L P X : List ℕ} {n a : ℕ} (g : SoFar s L₀ P₀ 
       b.indexed)
 
   -- one line more
-  module _ {X' : List ℕ} {r : Added} (h : AddedTo s (length L) (length P) X' n a r) where
-    told : {x : Added} → r ≡ x → AddedTo s (length L₀) (length P₀) X' n a x
+  module _ {X' : List ℕ} {r : Option Place} (h : AddedTo s (length L) (length P) X' n a r) where
+    told : {x : Option Place} → r ≡ x → AddedTo s (length L₀) (length P₀) X' n a x
     told e =
         subst (AddedTo s (length L₀) (length P₀) X' n a) e (alike (λ l p. AddedTo s l p X' n a r) g.links g.params h)
 
-    pub none_more : r ≡ added.Wrong → IsChecked s (length L₀) (length P₀) X' checked.Wrong
+    pub none_more : r ≡ std.None → IsChecked s (length L₀) (length P₀) X' std.None
     none_more e = go (told e)
       where
-        go : AddedTo s (length L₀) (length P₀) X' n a added.Wrong → IsChecked s (length L₀) (length P₀) X' checked.Wrong
+        go : AddedTo s (length L₀) (length P₀) X' n a std.None → IsChecked s (length L₀) (length P₀) X' std.None
         go (wrong m) = spec.wrong m
 
-    module _ {b : Place} (e : r ≡ added.Before b) where
+    module _ {b : Place} (e : r ≡ Some b) where
       pub forward : (a < b.0) × (b.0 ≤ length s)
       forward = go (told e)
         where
-          go : AddedTo s (length L₀) (length P₀) X' n a (added.Before b) → (a < b.0) × (b.0 ≤ length s)
+          go : AddedTo s (length L₀) (length P₀) X' n a (Some b) → (a < b.0) × (b.0 ≤ length s)
           go (before f i m) = (f, i)
 
       pub on : {L' P' : List ℕ} → n < pack_limit → length L' ≡ length L → length P' ≡ length P → length X' ≡ length X
           → SoFar s L₀ P₀ X₀ L' P' X' (n + 1) b.0
       on {L'} {P'} k x y z = go (told e)
         where
-          go : AddedTo s (length L₀) (length P₀) X' n a (added.Before b) → SoFar s L₀ P₀ X₀ L' P' X' (n + 1) b.0
+          go : AddedTo s (length L₀) (length P₀) X' n a (Some b) → SoFar s L₀ P₀ X₀ L' P' X' (n + 1) b.0
           go (before f i m) =
               record {
                 inside = i;

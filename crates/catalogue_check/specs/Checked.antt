@@ -1,15 +1,12 @@
 -- A catalogue checked line by line.
-use Rattle.std.specs.Prelude.{ℕ, suc, ◌≤◌, ◌<◌, ◌≡◌, List, ◌++◌, length, drop}
+use Rattle.std.specs.Prelude.{ℕ, suc, ◌≤◌, ◌<◌, ◌≡◌, List, ◌++◌, length, drop, Option, Some}
+use Rattle.std.specs.Prelude as std
 use Rattle.std.proofs.Math.Option.{some}
 use Rattle.tables.specs.Good.{Each}
 use Rattle.catalogues.specs.Packs.{Pack, Room, lines_of, RightPack, Distinct, Catalogue}
 use Rattle.catalogues.specs.Steps.{pack_at}
 use Rattle.kinds.specs.declared.Place.{Place}
 use Rattle.pack_index.specs.Index.{places_at, Placed, uri_in, value_in}
-use Rattle.catalogue_check.specs.declared.Added.{Added}
-use Rattle.catalogue_check.specs.declared.Added.TheVariants as added
-use Rattle.catalogue_check.specs.declared.Checked.{Checked}
-use Rattle.catalogue_check.specs.declared.Checked.TheVariants as checked
 
 -- the index X has the places of pack number i, which is p
 pub record HasPlaces (s X : List ℕ) (i : ℕ) (p : Pack) : Type 0 where
@@ -39,10 +36,10 @@ pub record Begun (s : List ℕ) (l p : ℕ) (X : List ℕ) (n a : ℕ) : Type 0 
   pub indexed : Indexed s X packs
 
 -- behind place a one pack more was added to n, or none can be
-pub data AddedTo (s : List ℕ) (l p : ℕ) (X : List ℕ) (n a : ℕ) : Added → Type 0 where
-  before : {b : Place} → a < b.0 → b.0 ≤ length s → Begun s l p X (suc n) b.0 → AddedTo s l p X n a (added.Before b)
-  wrong : None s l p → AddedTo s l p X n a added.Wrong
+pub data AddedTo (s : List ℕ) (l p : ℕ) (X : List ℕ) (n a : ℕ) : Option Place → Type 0 where
+  before : {b : Place} → a < b.0 → b.0 ≤ length s → Begun s l p X (suc n) b.0 → AddedTo s l p X n a (Some b)
+  wrong : None s l p → AddedTo s l p X n a std.None
 
-pub data IsChecked (s : List ℕ) (l p : ℕ) (X : List ℕ) : Checked → Type 0 where
-  right : (ps : List Pack) → Catalogue (tables l p) s ps → Indexed s X ps → IsChecked s l p X (checked.Right (length ps))
-  wrong : None s l p → IsChecked s l p X checked.Wrong
+pub data IsChecked (s : List ℕ) (l p : ℕ) (X : List ℕ) : Option ℕ → Type 0 where
+  right : (ps : List Pack) → Catalogue (tables l p) s ps → Indexed s X ps → IsChecked s l p X (Some (length ps))
+  wrong : None s l p → IsChecked s l p X std.None

@@ -1,5 +1,4 @@
 -- The laws that the proofs of `columns` cite.
-pub mod Growing
 pub mod Columns
 pub mod Decimal
 pub mod Fewest

@@ -19,16 +19,9 @@ impl Line {
         ensures { Grown self s.now result }
     {
         let mut octets = self.octets;
-        let from = self.len;
-        let mut i = 0;
-        while i < s.len() {
-            octets[from + i] = s[i];
-            i += 1;
-        }
-        Line {
-            octets,
-            len: from + i,
-        }
+        let len = self.len + s.len();
+        octets[self.len..len].copy_from_slice(s);
+        Line { octets, len }
     }
 
     // One more column.
@@ -53,10 +46,8 @@ pub fn line_of(label: &[u8], first: usize, rest: &[usize]) -> Line
         len: 0,
     };
     let mut l = empty.with_octets(label).with_number(first);
-    let mut i = 0;
-    while i < rest.len() {
-        l = l.with_number(rest[i]);
-        i += 1;
+    for n in rest {
+        l = l.with_number(*n);
     }
     l.with_octets(b"\n")
 }

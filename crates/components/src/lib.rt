@@ -49,15 +49,12 @@ fn find(s: &[u8], from: Place, to: Place, stops: Stops) -> Place
     requires { InText s.now from.0 to.0 }
     ensures { Found (stops_of stops) s.now from.0 to.0 result.0 }
 {
-    let mut k = from;
-    while k.0 < to.0 {
-        let i = k.0;
+    for i in from.0..to.0 {
         if stops_at(stops, s[i]) {
-            return k;
+            return Place(i);
         }
-        k = k.next();
     }
-    k
+    to
 }
 
 // Whether the octet c stands at this place, and before `to`.

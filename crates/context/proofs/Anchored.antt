@@ -5,6 +5,7 @@ use denote.Ref.{Bor}
 use mathlib.Core.Path.{◌≡◌, sym, ap, subst, ◌∙◌}
 use mathlib.Core.List.{List}
 use lib.ListN.{length, take, drop}
+use Rattle.std.specs.Prelude.{Option, Some, None, Result, Ok, Err}
 use lib.Seq.{slice}
 use Rattle.octets.specs.declared.editions.Edition.TheVariants.{Rfc5988}
 use Rattle.octets.proofs.Laws.{slice_take_drop}
@@ -21,11 +22,10 @@ use Rattle.table_check.specs.State.{UsableIn}
 use Rattle.table_check.proofs.EntryOutcomes.{state_usable}
 use Rattle.answers.specs.Context.{context_out}
 use Rattle.answers.specs.declared.Refusal.TheVariants.{NoSuchLink}
-use Rattle.answers.specs.declared.context_answer.ContextAnswer.{ContextAnswer}
-use Rattle.answers.specs.declared.context_answer.ContextAnswer.TheVariants.{Anchored, Base, Refused}
+use Rattle.answers.specs.declared.Refusal.{Refusal}
+use Rattle.answers.specs.declared.context_answer.Context as told
+use Rattle.answers.specs.declared.context_answer.Context.TheVariants.{Anchored, Base}
 use Rattle.named.specs.First.{Listed, FirstCoded, found}
-use Rattle.named.specs.declared.Named.{Named}
-use Rattle.named.specs.declared.Named.TheVariants.{Found, Absent}
 use Rattle.tables.proofs.InGood.{good_link, named_each}
 use Rattle.named.proofs.ByName.{by_anchor}
 use Rattle.named.proofs.Looking.{listed, own_params}
@@ -36,32 +36,32 @@ module _ {t : Table} {i : ℕ} (u : Usable Rfc5988 t) (l : i < t.link_count) {r 
   pub listed_here : Listed t.text t.param_slots r
   listed_here = listed u.good l is
 
-  module _ (a : Named) (first : FirstCoded t.param_slots r 2 a) where
+  module _ (a : Option ParamParts) (first : FirstCoded t.param_slots r 2 a) where
     pub is_found : anchor t i ≡ found a
     is_found =
         ap (named t.text (octets "anchor")) (own_params t.param_slots is)
         ∙ by_anchor t.text t.param_slots listed_here ∙ first
 
-    pub is_anchored : {p : ParamParts} → a ≡ Found p → IsAnchor t i (Anchored p.value)
+    pub is_anchored : {p : ParamParts} → a ≡ Some p → IsAnchor t i (Anchored p.value)
     is_anchored e =
         record {
           outcome = λ base. anchored l (is_found ∙ ap found e);
           within = (named_each t.text (octets "anchor") (good_link u.good l).params (is_found ∙ ap found e)).value_span;
         }
 
-    pub is_base : a ≡ Absent → IsAnchor t i Base
+    pub is_base : a ≡ None → IsAnchor t i Base
     is_base e = record { outcome = λ base. unanchored l (is_found ∙ ap found e); within = tt }
 
 -- on a table that may be used in the edition with the number n
 module _ {n : ℕ} {t : Table} {i : ℕ} (u : UsableIn n t) where
-  pub is_there : {a : ContextAnswer} → IsAnchor t i a → IsContext n t i a
+  pub is_there : {a : told.Context} → IsAnchor t i a → IsContext n t i (Ok a)
   is_there h = record { outcome = λ base. state_usable u (h.outcome base); within = h.within }
 
-  pub not_there : t.link_count ≤ i → IsContext n t i (Refused NoSuchLink)
+  pub not_there : t.link_count ≤ i → IsContext n t i (Err NoSuchLink)
   not_there l = record { outcome = λ base. state_usable u (no_such_link l); within = tt }
 
 -- the answer was told apart as x
-module _ {n : ℕ} {t : Table} {i : ℕ} {a x : ContextAnswer} (h : IsContext n t i a) (e : a ≡ x) where
+module _ {n : ℕ} {t : Table} {i : ℕ} {a x : Result told.Context Refusal} (h : IsContext n t i a) (e : a ≡ x) where
   pub within : Within t.text x
   within = subst (Within t.text) e h.within
 
@@ -79,7 +79,7 @@ module _ {n : ℕ} {t : Table} {i : ℕ} {a x : ContextAnswer} (h : IsContext n 
       }
 
 -- the part of the text, as the code takes it
-pub text_part : {n : ℕ} {t : Table} {i : ℕ} {a : ContextAnswer} {p : Span} → IsContext n t i a → a ≡ Anchored p
+pub text_part : {n : ℕ} {t : Table} {i : ℕ} {a : Result told.Context Refusal} {p : Span} → IsContext n t i a → a ≡ Ok (Anchored p)
     → take (p.to.0 - p.from.0) (drop p.from.0 t.text) ≡ slice p.from.0 p.to.0 t.text
 text_part {t} {p = p} h e = sym (slice_take_drop p.from.0 p.to.0 t.text (within h e).ordered)
 

@@ -1,26 +1,27 @@
 -- What the answer tells of a link's context, whatever the base is.
-use Rattle.std.specs.Prelude.{ℕ, ◌+◌, ◌≡◌, List, length}
+use Rattle.std.specs.Prelude.{ℕ, ◌+◌, ◌≡◌, List, Result, Ok, Err, length}
 use Rattle.std.specs.Borrow.{Bor}
 use Rattle.tables.specs.Table.{Table}
 use Rattle.tables.specs.Good.{InText}
 use Rattle.outcomes.specs.Context.{ContextOf, Context, ContextOut, of_text, of_base, context_octets}
 use Rattle.answers.specs.Context.{context_out}
-use Rattle.answers.specs.declared.context_answer.ContextAnswer.{ContextAnswer}
-use Rattle.answers.specs.declared.context_answer.ContextAnswer.TheVariants.{Anchored, Base, Refused}
+use Rattle.answers.specs.declared.Refusal.{Refusal}
+use Rattle.answers.specs.declared.context_answer.Context as told
+use Rattle.answers.specs.declared.context_answer.Context.TheVariants.{Anchored, Base}
 
 -- a part of the text lies in it
-abbrev pub Within : List ℕ → ContextAnswer → Type 0
-Within s (Anchored p) = InText s p.from.0 p.to.0
-Within s Base = Unit
-Within s (Refused w) = Unit
+abbrev pub Within : List ℕ → Result told.Context Refusal → Type 0
+Within s (Ok (Anchored p)) = InText s p.from.0 p.to.0
+Within s (Ok Base) = Unit
+Within s (Err w) = Unit
 
 -- of a table that may be used
-pub record IsAnchor (t : Table) (i : ℕ) (a : ContextAnswer) : Type 0 where
-  pub outcome : (base : List ℕ) → ContextOf t base i (context_out (length base) a)
-  pub within : Within t.text a
+pub record IsAnchor (t : Table) (i : ℕ) (a : told.Context) : Type 0 where
+  pub outcome : (base : List ℕ) → ContextOf t base i (context_out (length base) (Ok a))
+  pub within : Within t.text (Ok a)
 
 -- asked with the number n of an edition
-pub record IsContext (n : ℕ) (t : Table) (i : ℕ) (a : ContextAnswer) : Type 0 where
+pub record IsContext (n : ℕ) (t : Table) (i : ℕ) (a : Result told.Context Refusal) : Type 0 where
   pub outcome : (base : List ℕ) → Context n t base i (context_out (length base) a)
   pub within : Within t.text a
 

@@ -42,5 +42,9 @@ module _ {f : ℕ → Bool} {s : List ℕ} where
   pub at_its_end : {a i : ℕ} → RunSoFar f s a i → length s ≤ i → Passed f s a i
   at_its_end g h = record { forward = g.forward; inside = g.inside; run = g.run; stops = λ l. absurd (omega arith) }
 
+  -- the same, told of the text's end
+  pub up_to_the_end : {a i : ℕ} → RunSoFar f s a i → length s ≤ i → Passed f s a (length s)
+  up_to_the_end {a} {i} g h = let q : i ≡ length s = omega (arith, g.inside) in rw q at (at_its_end g h)
+
   pub stop : {a i : ℕ} → RunSoFar f s a i → f (get_or s i 0) ≡ false → Passed f s a i
   stop g e = record { forward = g.forward; inside = g.inside; run = g.run; stops = λ l. e }

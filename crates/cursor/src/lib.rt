@@ -6,7 +6,6 @@ ghost use Rattle.octets.specs.Sets.{is_blank, is_token, is_plain, is_target};
 ghost use Rattle.octets.specs.Editions.{further};
 ghost use Rattle.octet_classes.specs.Sets.{is_in};
 ghost use Rattle.grammar.specs.Grammar.{is_bare};
-ghost use Rattle.octet_classes.specs.Classes.{Classes};
 ghost use Rattle.cursor.specs.Passed.{Passed, Ended, Looked, LookedIn};
 
 use kinds::{Place, Span};
@@ -38,13 +37,12 @@ impl Cursor {
     }
 
     // Whether an octet of the set stands here.
-    pub fn sees_in(self, classes: &[u8; 256], s: &[u8], set: Set) -> bool
-        requires { Classes classes.now }
+    pub fn sees_in(self, s: &[u8], set: Set) -> bool
         ensures { LookedIn (is_in set) s.now self.at.0 result }
     {
         let i = self.at.0;
         if i < s.len() {
-            return is_in(classes, set, s[i]);
+            return is_in(set, s[i]);
         }
         false
     }
@@ -70,57 +68,58 @@ impl Cursor {
     }
 
     // Past a run of octets of a set.
-    fn past(self, classes: &[u8; 256], s: &[u8], set: Set) -> Cursor
-        requires { (self.at.0 ≤ length s.now) × Classes classes.now }
+    fn past(self, s: &[u8], set: Set) -> Cursor
+        requires { self.at.0 ≤ length s.now }
         ensures { Passed (is_in set) s.now self.at.0 result.at.0 }
     {
-        let mut i = self.at.0;
-        while i < s.len() && is_in(classes, set, s[i]) {
-            i += 1;
+        for i in self.at.0..s.len() {
+            if !is_in(set, s[i]) {
+                return Cursor { at: Place(i) };
+            }
         }
-        Cursor { at: Place(i) }
+        Cursor { at: Place(s.len()) }
     }
 
     // Past a run of SP and HTAB.
-    pub fn past_blanks(self, classes: &[u8; 256], s: &[u8]) -> Cursor
-        requires { (self.at.0 ≤ length s.now) × Classes classes.now }
+    pub fn past_blanks(self, s: &[u8]) -> Cursor
+        requires { self.at.0 ≤ length s.now }
         ensures { Passed is_blank s.now self.at.0 result.at.0 }
     {
-        self.past(classes, s, Set::Blank)
+        self.past(s, Set::Blank)
     }
 
     // Past a run of token octets.
-    pub fn past_token(self, classes: &[u8; 256], s: &[u8]) -> Cursor
-        requires { (self.at.0 ≤ length s.now) × Classes classes.now }
+    pub fn past_token(self, s: &[u8]) -> Cursor
+        requires { self.at.0 ≤ length s.now }
         ensures { Passed is_token s.now self.at.0 result.at.0 }
     {
-        self.past(classes, s, Set::Token)
+        self.past(s, Set::Token)
     }
 
     // Past what a value without quotes holds behind its token octets: in the older edition a run that begins with a further octet.
-    pub fn past_further(self, classes: &[u8; 256], s: &[u8], edition: Edition) -> Cursor
-        requires { Ended is_token s.now self.at.0 × Classes classes.now }
+    pub fn past_further(self, s: &[u8], edition: Edition) -> Cursor
+        requires { Ended is_token s.now self.at.0 }
         ensures { Passed (is_bare (further edition)) s.now self.at.0 result.at.0 }
     {
         match edition {
             Edition::Rfc8288 => self,
-            Edition::Rfc5988 => self.past(classes, s, Set::Ptoken),
+            Edition::Rfc5988 => self.past(s, Set::Ptoken),
         }
     }
 
     // Past a run of octets that stand for themselves in a target.
-    pub fn past_target(self, classes: &[u8; 256], s: &[u8]) -> Cursor
-        requires { (self.at.0 ≤ length s.now) × Classes classes.now }
+    pub fn past_target(self, s: &[u8]) -> Cursor
+        requires { self.at.0 ≤ length s.now }
         ensures { Passed is_target s.now self.at.0 result.at.0 }
     {
-        self.past(classes, s, Set::Target)
+        self.past(s, Set::Target)
     }
 
     // Past a run of octets that stand for themselves in a quoted string.
-    pub fn past_plain(self, classes: &[u8; 256], s: &[u8]) -> Cursor
-        requires { (self.at.0 ≤ length s.now) × Classes classes.now }
+    pub fn past_plain(self, s: &[u8]) -> Cursor
+        requires { self.at.0 ≤ length s.now }
         ensures { Passed is_plain s.now self.at.0 result.at.0 }
     {
-        self.past(classes, s, Set::Plain)
+        self.past(s, Set::Plain)
     }
 }

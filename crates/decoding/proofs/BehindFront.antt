@@ -10,6 +10,7 @@ use Rattle.octets.specs.Text.{octets}
 use Rattle.octets.specs.Fold.{fold}
 use Rattle.extended.specs.Value.{quote, is_language}
 use Rattle.extended.specs.Decoded.{bind, behind_folded, charset_part, behind_language}
+use Rattle.units.specs.declared.Reading.{Reading}
 use Rattle.units.specs.Seen.{seen, ReadsOctet, ReadsNone}
 
 -- ---- the charset, one octet behind another
@@ -44,14 +45,14 @@ charset_behind w u t f h g r a b c d e z =
 
 -- ---- what is read
 
-module _ {b : Bool} {s : List ℕ} {e k : ℕ} (w : ReadsNone b s e k) where
+module _ {b : Reading} {s : List ℕ} {e k : ℕ} (w : ReadsNone b s e k) where
   pub no_octet : (x : ℕ) → none ≡ behind_folded (x ∷ []) (seen b s e k)
   no_octet x = rw w.none
 
   pub no_language : none ≡ behind_language (seen b s e k)
   no_language = rw w.none
 
-module _ {b : Bool} {s : List ℕ} {e k c n : ℕ} (w : ReadsOctet b s e k c n) where
+module _ {b : Reading} {s : List ℕ} {e k c n : ℕ} (w : ReadsOctet b s e k c n) where
   pub same_octet : (x : ℕ) → fold c ≡ x → some (seen b s e n) ≡ behind_folded (x ∷ []) (seen b s e k)
   same_octet x q = rw (w.octet, eq-eqb (fold c) x q)
 

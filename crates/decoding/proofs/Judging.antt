@@ -1,18 +1,19 @@
 -- What the fronts and the count tell of a value.
 use Prim.Native.Nat.{ℕ, ◌+◌}
 use native.Mathlib.Omega.{arith}
-use mathlib.Core.Path.{◌≡◌, refl, sym, ap, subst, ◌∙◌}
-use mathlib.Core.Bool.{Bool, true, false, cond, false≢true}
+use mathlib.Core.Path.{◌≡◌, refl, sym, ap, ◌∙◌}
+use mathlib.Core.Bool.{Bool, true, false, cond}
 use mathlib.Core.List.{List}
 use mathlib.Core.Option.{Option, none, some}
 use lib.ListN.{length}
 use Rattle.utf8.specs.Sequences.{WellFormed}
 use Rattle.extended.specs.Value as value
-use Rattle.extended.specs.Decoded.{value_chars, given}
+use Rattle.extended.specs.Decoded.{bind, behind_folded, charset_part, behind_language, value_chars, given}
 use Rattle.extended.proofs.Given.{none_some}
 use Rattle.extended.proofs.Exact.{extended_of, extended_chars}
 use Rattle.sequences.specs.Awaited.{nothing, complete}
 use Rattle.sequences.proofs.Exact.{awaited_exact}
+use Rattle.units.specs.declared.Reading.{Reading}
 use Rattle.units.specs.Seen.{seen}
 use Rattle.decoding.specs.Measured.{measured, octets_given, IsGiven}
 use Rattle.decoding.specs.Judged.{IsRight, IsWrong}
@@ -31,9 +32,16 @@ uncounted : (o : Option (List ℕ)) → none ≡ measured 0 nothing o → (v : L
 uncounted o e v q f =
     none_some (e ∙ ap (measured 0 nothing) q ∙ ap (λ (b : Bool). cond b (some (0 + length v)) none) (awaited_exact.all v f))
 
-module _ {b : Bool} {s : List ℕ} {e k : ℕ} where
+-- what is left of w behind the language, where v is left behind the charset
+pub chars_there : (v w : List ℕ) {o : Option (List ℕ)} → some v ≡ behind_folded charset_part w → o ≡ behind_language v → o ≡ value_chars w
+chars_there v w h q = q ∙ ap (λ (z : Option (List ℕ)). bind z behind_language) h
+
+module _ {b : Reading} {s : List ℕ} {e k : ℕ} where
   pub no_chars : none ≡ value_chars (seen b s e k) → IsWrong b s e k
   no_chars h = record { wrong = λ v x. none_some (h ∙ (extended_chars x).0) }
+
+  pub no_charset : none ≡ behind_folded charset_part (seen b s e k) → IsWrong b s e k
+  no_charset h = no_chars (ap (λ (z : Option (List ℕ)). bind z behind_language) h)
 
   -- the characters begin at place p
   module _ (p : ℕ) (h : some (seen b s e p) ≡ value_chars (seen b s e k)) where
@@ -52,7 +60,7 @@ module _ {b : Bool} {s : List ℕ} {e k : ℕ} where
         record { octets = v; extended = extended_of (seen b s e k) (seen b s e p) v (sym h) g f; chars = g; count = l }
 
 -- the octets of a right value are given by its characters, and counted
-module _ {b : Bool} {s : List ℕ} {e k p n : ℕ} (r : IsRight b s e k p n) where
+module _ {b : Reading} {s : List ℕ} {e k p n : ℕ} (r : IsRight b s e k p n) where
   pub right_octets : octets_given (given (seen b s e p)) ≡ r.octets
   right_octets = ap octets_given r.chars
 

@@ -1,9 +1,8 @@
 -- Octets counted and judged as they are given, and put as they are given.
 use Prim.Native.Nat.{ℕ, suc, ◌+◌, ◌≤◌}
 use native.Mathlib.Omega.{arith}
-use native.Mathlib.Numerals.{add-one}
 use mathlib.Core.Path.{◌≡◌, refl, sym, ap, ◌∙◌}
-use mathlib.Core.Bool.{Bool, cond}
+use mathlib.Core.Bool.{cond}
 use mathlib.Core.List.{List, [], ◌∷◌}
 use mathlib.Core.Option.{Option, none, some}
 use lib.ListN.{length}
@@ -11,8 +10,9 @@ use Rattle.extended.specs.Decoded.{no_triple, add, given}
 use Rattle.extended.proofs.Given.{none_some}
 use Rattle.sequences.specs.Awaited.{behind, complete}
 use Rattle.sequences.specs.declared.Awaited.{Awaited}
+use Rattle.units.specs.declared.Reading.{Reading}
 use Rattle.units.specs.Seen.{seen}
-use Rattle.units.specs.Units.{GivesOctet, GivesNone, GivesWrong}
+use Rattle.units.specs.Units.{GivesOctet}
 use Rattle.units.proofs.Looking.{nothing_left}
 use Rattle.decoding.specs.Measured.{measured, octets_given, IsGiven}
 
@@ -24,10 +24,10 @@ measured_more n t c (some v) =
     ap (λ (m : ℕ). cond (complete (behind t c) v) (some m) none) e
 
 -- nothing is given at the end
-pub given_none : (b : Bool) (s : List ℕ) {e k : ℕ} → e ≤ k → given (seen b s e k) ≡ some []
+pub given_none : (b : Reading) (s : List ℕ) {e k : ℕ} → e ≤ k → given (seen b s e k) ≡ some []
 given_none b s h = ap given (nothing_left b s h)
 
-module _ {b : Bool} {s : List ℕ} {e k c m : ℕ} (w : GivesOctet no_triple b s e k c m) where
+module _ {b : Reading} {s : List ℕ} {e k c m : ℕ} (w : GivesOctet no_triple b s e k c m) where
   pub count_on : (n : ℕ) (t : Awaited) → measured (n + 1) (behind t c) (given (seen b s e m)) ≡ measured n t (given (seen b s e k))
   count_on n t = sym (ap (measured n t) w.octet ∙ measured_more n t c (given (seen b s e m)))
 

@@ -1,10 +1,9 @@
 -- How many octets are given, if they are well-formed UTF-8.
-use Rattle.std.specs.Prelude.{ℕ, ◌+◌, ◌≡◌, cond, List, [], length}
+use Rattle.std.specs.Prelude.{ℕ, ◌+◌, ◌≡◌, cond, List, [], length, Some, None}
+use Rattle.std.specs.Prelude as rust
 use Rattle.std.proofs.Math.Option.{Option, none, some}
 use Rattle.sequences.specs.Awaited.{complete}
 use Rattle.sequences.specs.declared.Awaited.{Awaited}
-use Rattle.decoding.specs.declared.octets_given.Measured.{Measured}
-use Rattle.decoding.specs.declared.octets_given.Measured.TheVariants.{Count, Unfit}
 
 -- where n octets are counted, t is awaited, and o is still to be given
 abbrev pub measured : ℕ → Awaited → Option (List ℕ) → Option ℕ
@@ -12,9 +11,9 @@ measured n t none = none
 measured n t (some v) = cond (complete t v) (some (n + length v)) none
 
 -- what an answer tells
-abbrev pub told : Measured → Option ℕ
-told (Count n) = some n
-told Unfit = none
+abbrev pub told : rust.Option ℕ → Option ℕ
+told (Some n) = some n
+told None = none
 
 -- the octets given, or none
 abbrev pub octets_given : Option (List ℕ) → List ℕ

@@ -1,57 +1,34 @@
 // The parts of an extended value before its characters: the charset, the language, and their quotes.
 ghost use Rattle.std.specs.Prelude.{◌≡◌, [], ◌∷◌, ◌≤◌, length};
 ghost use Rattle.extended.specs.Value.{is_language};
-ghost use Rattle.extended.specs.Decoded.{bind, behind_folded, charset_part, behind_language};
+ghost use Rattle.extended.specs.Decoded.{behind_folded, charset_part, behind_language};
 ghost use Rattle.units.specs.Seen.{seen};
 ghost use Rattle.decoding.specs.Sight.{sight};
 
 use folding::fold;
 use kinds::Place;
-use units::{Seen, look};
-
-// The place behind something that stands where it should.
-#[derive(Clone, Copy)]
-pub enum Behind {
-    At(Place),
-    Nowhere,
-}
+use units::{Reading, look};
 
 // The place behind an octet that is folded to x.
-fn past_octet(s: &[u8], from: Behind, e: Place, escapes: bool, x: u8) -> Behind
+fn past_octet(s: &[u8], k: Place, e: Place, how: Reading, x: u8) -> Option<Place>
     requires { e.0 ≤ length s.now }
-    ensures { sight escapes s.now e.0 result
-        ≡ bind (sight escapes s.now e.0 from) (behind_folded (x ∷ [])) }
+    ensures { sight how s.now e.0 result ≡ behind_folded (x ∷ []) (seen how s.now e.0 k.0) }
 {
-    match from {
-        Behind::Nowhere => Behind::Nowhere,
-        Behind::At(k) => {
-            let seen = look(s, k, e, escapes);
-            match seen {
-                Seen::End => Behind::Nowhere,
-                Seen::Octet(c, n) => {
-                    if fold(c) == x {
-                        Behind::At(n)
-                    } else {
-                        Behind::Nowhere
-                    }
-                }
-            }
-        }
-    }
+    let (c, n) = look(s, k, e, how)?;
+    if fold(c) == x { Some(n) } else { None }
 }
 
 // The place behind the charset and its quote.
-pub fn past_charset(s: &[u8], k: Place, e: Place, escapes: bool) -> Behind
+pub fn past_charset(s: &[u8], k: Place, e: Place, how: Reading) -> Option<Place>
     requires { e.0 ≤ length s.now }
-    ensures { sight escapes s.now e.0 result
-        ≡ behind_folded charset_part (seen escapes s.now e.0 k.0) }
+    ensures { sight how s.now e.0 result ≡ behind_folded charset_part (seen how s.now e.0 k.0) }
 {
-    let u = past_octet(s, Behind::At(k), e, escapes, b'u');
-    let t = past_octet(s, u, e, escapes, b't');
-    let f = past_octet(s, t, e, escapes, b'f');
-    let hyphen = past_octet(s, f, e, escapes, b'-');
-    let eight = past_octet(s, hyphen, e, escapes, b'8');
-    past_octet(s, eight, e, escapes, b'\'')
+    let u = past_octet(s, k, e, how, b'u')?;
+    let t = past_octet(s, u, e, how, b't')?;
+    let f = past_octet(s, t, e, how, b'f')?;
+    let hyphen = past_octet(s, f, e, how, b'-')?;
+    let eight = past_octet(s, hyphen, e, how, b'8')?;
+    past_octet(s, eight, e, how, b'\'')
 }
 
 // An octet of a language.
@@ -64,36 +41,19 @@ fn is_language(c: u8) -> bool
 }
 
 // The place behind a language that begins at k, and its quote.
-fn language_from(s: &[u8], k: Place, e: Place, escapes: bool) -> Behind
+pub fn past_language(s: &[u8], k: Place, e: Place, how: Reading) -> Option<Place>
     requires { e.0 ≤ length s.now }
-    ensures { sight escapes s.now e.0 result ≡ behind_language (seen escapes s.now e.0 k.0) }
+    ensures { sight how s.now e.0 result ≡ behind_language (seen how s.now e.0 k.0) }
 {
     let mut at = k;
-    while at.0 < e.0 {
-        let seen = look(s, at, e, escapes);
-        match seen {
-            Seen::End => return Behind::Nowhere,
-            Seen::Octet(c, n) => {
-                if c == b'\'' {
-                    return Behind::At(n);
-                }
-                if !is_language(c) {
-                    return Behind::Nowhere;
-                }
-                at = n;
-            }
+    while let Some((c, n)) = look(s, at, e, how) {
+        if c == b'\'' {
+            return Some(n);
         }
+        if !is_language(c) {
+            return None;
+        }
+        at = n;
     }
-    Behind::Nowhere
-}
-
-// The place behind the language that begins where `from` tells, and its quote.
-pub fn past_language(s: &[u8], from: Behind, e: Place, escapes: bool) -> Behind
-    requires { e.0 ≤ length s.now }
-    ensures { sight escapes s.now e.0 result ≡ bind (sight escapes s.now e.0 from) behind_language }
-{
-    match from {
-        Behind::Nowhere => Behind::Nowhere,
-        Behind::At(k) => language_from(s, k, e, escapes),
-    }
+    None
 }

@@ -97,11 +97,8 @@ pub fn walk(s: &[u8], part: Span, begun: Walk) -> Walk
     requires kept_bound { (begun.kept ≤ 24576) × (begun.pending ≤ 8192) }
     ensures { result ≡ run (bare_of s.now part.from.0 part.to.0) begun }
 {
-    let from = part.from.0;
-    let mut i = part.to.0;
     let mut t = begun;
-    while from < i {
-        i -= 1;
+    for i in (part.from.0..part.to.0).rev() {
         t = passed(t, s[i]);
     }
     t
@@ -134,12 +131,9 @@ pub fn write(s: &[u8], part: Span, begun: Walk, out: &mut [u8], end: OutPlace) -
     ensures { Written out.old out.new end.0
         (bare_of s.now part.from.0 part.to.0) begun result }
 {
-    let from = part.from.0;
     let right = end.0;
-    let mut i = part.to.0;
     let mut t = begun;
-    while from < i {
-        i -= 1;
+    for i in (part.from.0..part.to.0).rev() {
         let c = s[i];
         let n = passed(t, c);
         put_before(out, right - t.kept, n.kept - t.kept, c);

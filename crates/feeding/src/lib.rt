@@ -2,7 +2,7 @@
 // was gathered; so no octet of an earlier part is looked at again, however the header is cut, and a refusal stores nothing.
 #![tactic(auto)]
 
-ghost use Rattle.std.specs.Prelude.{◌≡◌, ◌+◌, suc, min, length};
+ghost use Rattle.std.specs.Prelude.{◌≡◌, ◌+◌, suc, min, length, Err};
 ghost use Rattle.outcomes.specs.Number.{limit};
 ghost use Rattle.outcomes.specs.Feeding.{start, moved_to, start_in, FeedsIn, Feeds, FinishesIn, Finishes};
 ghost use Rattle.answers.specs.Read.{read_numbers, read_out};
@@ -10,10 +10,10 @@ ghost use Rattle.answers.specs.Feed.{feed_numbers, feed_out, state_of};
 ghost use Rattle.feeding.specs.Taking.{Takes, held_spot};
 
 use answers::feed_answer::{FeedAnswer, Feeding};
-use answers::read_answer::ReadAnswer;
+use answers::read_answer::{ReadAnswer, ReadError};
 use answers::{LIMIT, Refusal};
 use kinds::{OutPlace, Place, Span};
-use octets::editions::{Asked, Edition, edition_of};
+use octets::editions::{Edition, edition_of};
 use part_scan::{PartScan, scan_part};
 use phases::spot::Spot;
 
@@ -52,6 +52,16 @@ fn moved(state: Feeding, total: usize, place: usize) -> Feeding
     next.total = total;
     next.place = place;
     next
+}
+
+// What a refusal answers.
+fn refused(why: ReadError, next: Feeding) -> FeedAnswer
+    ensures { result ≡ record { told = Err why; next = next } }
+{
+    FeedAnswer {
+        told: Err(why),
+        next,
+    }
 }
 
 // Where the open target starts. Whatever the state names, it is no place behind the octets that counted, so that a fault that is told is
@@ -95,25 +105,31 @@ fn take(edition: Edition, state: Feeding, part: &[u8], buffer: &mut [u8]) -> Fee
     ensures { FeedsIn (state_of state) part.now buffer.old edition
         (feed_out (feed_numbers result) buffer.new) (state_of (feed_numbers result).next) }
 {
-    let classes = octet_classes::table();
     let before = state.total;
     let total = before + part.len();
-    match scan_part(&classes, edition, part, before, spot_of(state)) {
+    match scan_part(edition, part, before, spot_of(state)) {
         PartScan::Stuck(at) => {
             let place = before + at.0;
-            FeedAnswer::Malformed(Place(place), moved(state, total, place))
+            refused(
+                ReadError::Malformed(Place(place)),
+                moved(state, total, place),
+            )
         }
-        PartScan::Unfit(start) => FeedAnswer::Malformed(start, moved(state, total, start.0)),
+        PartScan::Unfit(start) => refused(
+            ReadError::Malformed(start),
+            moved(state, total, start.0),
+        ),
         PartScan::Through(spot) => {
             putting::part::put_part(part, whole(part), buffer, OutPlace(before));
-            FeedAnswer::Begun(Feeding {
+            let next = Feeding {
                 edition: state.edition,
                 phase: spot.phase,
                 total,
                 place: total,
                 target: spot.target.0,
                 judged: spot.judged,
-            })
+            };
+            FeedAnswer { told: Ok(()), next }
         }
     }
 }
@@ -127,13 +143,13 @@ fn feed_in(edition: Edition, state: Feeding, part: &[u8], buffer: &mut [u8]) -> 
     let place = state.place;
     let sum = total_with(before, part.len());
     if buffer.len() < LIMIT {
-        return FeedAnswer::Refused(Refusal::NoOutputRoom, moved(state, before, place));
+        return refused(Refusal::NoOutputRoom.into(), moved(state, before, place));
     }
     if sum > LIMIT {
-        return FeedAnswer::Refused(Refusal::TooLong, moved(state, sum, place));
+        return refused(Refusal::TooLong.into(), moved(state, sum, place));
     }
     if place < before {
-        return FeedAnswer::Malformed(Place(place), moved(state, sum, place));
+        return refused(ReadError::Malformed(Place(place)), moved(state, sum, place));
     }
     take(edition, state, part, buffer)
 }
@@ -143,10 +159,10 @@ pub fn feed(state: Feeding, part: &[u8], buffer: &mut [u8]) -> FeedAnswer
     ensures { Feeds (state_of state) part.now buffer.old
         (feed_out (feed_numbers result) buffer.new) (state_of (feed_numbers result).next) }
 {
-    match edition_of(state.edition) {
-        Asked::Unknown => FeedAnswer::Refused(Refusal::UnknownEdition, state),
-        Asked::Known(edition) => feed_in(edition, state, part, buffer),
-    }
+    let Some(edition) = edition_of(state.edition) else {
+        return refused(Refusal::UnknownEdition.into(), state);
+    };
+    feed_in(edition, state, part, buffer)
 }
 
 // Reads what was gathered. Octets of which something is wrong were not gathered whole: their place is remembered.
@@ -163,13 +179,13 @@ fn finish_in(
     let total = state.total;
     let place = state.place;
     if gathered.len() < LIMIT {
-        return ReadAnswer::Refused(Refusal::NoOutputRoom);
+        return Err(Refusal::NoOutputRoom.into());
     }
     if total > LIMIT {
-        return ReadAnswer::Refused(Refusal::TooLong);
+        return Err(Refusal::TooLong.into());
     }
     if place < total {
-        return ReadAnswer::Malformed(Place(place));
+        return Err(ReadError::Malformed(Place(place)));
     }
     reader::read_in(edition, &gathered[..total], links, params)
 }
@@ -184,8 +200,6 @@ pub fn finish(
     ensures { Finishes (state_of state) gathered.now links.old params.old
         (read_out (read_numbers result) links.new params.new) }
 {
-    match edition_of(state.edition) {
-        Asked::Unknown => ReadAnswer::Refused(Refusal::UnknownEdition),
-        Asked::Known(edition) => finish_in(edition, state, gathered, links, params),
-    }
+    let edition = edition_of(state.edition).ok_or(Refusal::UnknownEdition)?;
+    finish_in(edition, state, gathered, links, params)
 }

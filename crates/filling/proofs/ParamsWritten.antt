@@ -96,7 +96,7 @@ module _ {extra : Extra} {s old : List ℕ} {a m : ℕ} (b : BeforeParams extra 
       (p : Passed is_blank s i j) (q : At s j 59) (l : k ≡ j + 1) (v : Passed is_blank s k e) (f : Parsed extra s e (to_param r) d)
       (h : c ≡ code_of (folded (slice r.name.from.0 r.name.to.0 s))) (o : z ≡ has_code x c) where
     along_more : ParamsSoFar extra s a d (w.count + cond z 0 1) (with_code x c) (to_param r ∷ w.params)
-    along_more = more {d = record { at = record { 0 = d } }} w.along p q l v (a_param f) refl h o refl refl
+    along_more = more {d = record { at = record { 0 = d } }} w.along p q l v (a_param f) h o refl refl
 
     pub keep_room : z ≡ false → n < param_room_of new
     keep_room y =

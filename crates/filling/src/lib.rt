@@ -2,7 +2,6 @@
 #![tactic(auto)]
 
 ghost use Rattle.octets.specs.Editions.{further};
-ghost use Rattle.octet_classes.specs.Classes.{Classes};
 ghost use Rattle.filling.specs.Filling.{ReadingFits, TablesFilled};
 
 use crate::link::fill_link;
@@ -14,22 +13,17 @@ mod link;
 mod params;
 
 // Writes the records of all links. Between two of them stand blanks and commas alone.
-pub fn fill(
-    classes: &[u8; 256],
-    edition: Edition,
-    s: &[u8],
-    links: &mut [usize],
-    params: &mut [usize],
-)
-    requires { ReadingFits (further edition) s.now links.old params.old × Classes classes.now }
+pub fn fill(edition: Edition, s: &[u8], links: &mut [usize], params: &mut [usize])
+    requires { ReadingFits (further edition) s.now links.old params.old }
     ensures { TablesFilled (further edition) s.now
         links.old links.new params.old params.new }
 {
     let mut c = Cursor::start();
     let mut n = LinkNumber::first();
     let mut m = ParamNumber::first();
+    // The cursor moves on by what each part takes, so no `for` fits.
     loop {
-        let i = c.past_blanks(classes, s);
+        let i = c.past_blanks(s);
         if i.at.0 >= s.len() {
             return;
         }
@@ -37,7 +31,7 @@ pub fn fill(
             c = i.past_octet(s);
             continue;
         }
-        let behind = fill_link(classes, edition, s, i.past_octet(s), links, n, params, m);
+        let behind = fill_link(edition, s, i.past_octet(s), links, n, params, m);
         n = n.next();
         m = behind.next;
         let d = behind.cursor;

@@ -2,7 +2,6 @@
 ghost use Rattle.std.specs.Prelude.{◌≡◌, false, ◌<◌};
 ghost use Rattle.grammar.specs.Records.{param_room_of};
 ghost use Rattle.octets.specs.Editions.{further};
-ghost use Rattle.octet_classes.specs.Classes.{Classes};
 ghost use Rattle.filling.specs.Filling.{KeptOnce, BeforeParams, ParamsFilled};
 
 use cursor::Cursor;
@@ -33,26 +32,26 @@ fn keep(params: &mut [usize], m: ParamNumber, r: ParamRecord, again: bool) -> Pa
 
 // Writes the records of a link's kept parameters, from number m on.
 pub fn fill_params(
-    classes: &[u8; 256],
     edition: Edition,
     s: &[u8],
     from: Cursor,
     params: &mut [usize],
     m: ParamNumber,
 ) -> Behind
-    requires { BeforeParams (further edition) s.now params.old from.at.0 m.0 × Classes classes.now }
+    requires { BeforeParams (further edition) s.now params.old from.at.0 m.0 }
     ensures { ParamsFilled (further edition) s.now from.at.0 result.cursor.at.0 m.0 result.next.0
         params.old params.new }
 {
     let mut c = from;
     let mut n = m;
     let mut seen = Seen::none();
+    // The cursor moves on by what each part takes, so no `for` fits.
     loop {
-        let i = c.past_blanks(classes, s);
+        let i = c.past_blanks(s);
         if !i.sees(s, b';') {
             return Behind { cursor: i, next: n };
         }
-        let p = read_param(classes, edition, s, i.past_octet(s).past_blanks(classes, s));
+        let p = read_param(edition, s, i.past_octet(s).past_blanks(s));
         let parts = p.parts;
         let name = parts.name;
         let code = names::code(s, name);

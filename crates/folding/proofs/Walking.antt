@@ -52,7 +52,8 @@ module _ {x y : List ℕ} {i : ℕ} {r : Bool} (h : AlikeSoFar x y i) (l : i < l
         pairs = count ∙ rw (add-one, not-false r n) (omega arith);
       }
 
-pub through : {x y : List ℕ} {i : ℕ} → AlikeSoFar x y i → length x ≤ i → Told x y true i
+pub through : {x y : List ℕ} {i : ℕ} → AlikeSoFar x y i → length x ≤ i → Told x y true (length x)
 unfolding same_folded
 through {x} {y} {i} h l =
-    (rw (h.rest, drop_of_length-le x l, drop_of_length-le y {i = i} (omega arith)), sym (h.pairs ∙ rw (drop_of_length-le x l) (omega arith)))
+    let counted : pairs_compared x y ≡ i = h.pairs ∙ rw (drop_of_length-le x l) (omega arith) in
+    (rw (h.rest, drop_of_length-le x l, drop_of_length-le y {i = i} (omega arith)), omega arith)

@@ -19,7 +19,8 @@ pub fn same_octet(c: u8, d: u8) -> bool
     c == d || (c | 32 == d | 32) & (b'a' <= c | 32) & (c | 32 <= b'z')
 }
 
-// What comparing two texts tells: whether they are the same once folded, and how many pairs of octets were compared.
+// What comparing two texts tells: whether they are the same once folded, and how many pairs of octets were compared. Pairs are told either
+// way, so an Option of them would say less.
 #[derive(Clone, Copy)]
 pub struct Compared {
     pub same: bool,
@@ -34,14 +35,13 @@ pub struct CompareNumbers {
     pub pairs: usize,
 }
 
-impl Compared {
-    pub fn numbers(self) -> CompareNumbers
-        ensures same_value { result.same ≡ cond self.same 1 0 }
-        ensures pairs_value { result.pairs ≡ self.pairs }
-    {
+impl From<Compared> for CompareNumbers {
+    ghost from_gives = { λ told numbers. (numbers.same ≡ cond told.same 1 0) × (numbers.pairs ≡ told.pairs) };
+
+    fn from(told: Compared) -> CompareNumbers {
         CompareNumbers {
-            same: if self.same { 1 } else { 0 },
-            pairs: self.pairs,
+            same: if told.same { 1 } else { 0 },
+            pairs: told.pairs,
         }
     }
 }
@@ -57,16 +57,14 @@ pub fn compare(x: &[u8], y: &[u8]) -> Compared
             pairs: 0,
         };
     }
-    let mut i = 0;
-    while i < x.len() {
+    for i in 0..x.len() {
         if !same_octet(x[i], y[i]) {
             let pairs = i + 1;
             return Compared { same: false, pairs };
         }
-        i += 1;
     }
     Compared {
         same: true,
-        pairs: i,
+        pairs: x.len(),
     }
 }

@@ -3,6 +3,7 @@ use Prim.Native.Nat.{ℕ, ◌<◌}
 use mathlib.Core.Path.{◌≡◌, ap, ◌∙◌}
 use mathlib.Core.Bool.{Bool, false}
 use mathlib.Core.List.{List}
+use Rattle.std.specs.Prelude.{Option, Some, None}
 use Rattle.octets.specs.Text.{octets}
 use Rattle.octets.specs.Editions.{further}
 use Rattle.octets.specs.declared.editions.Edition.TheVariants.{Rfc5988}
@@ -18,8 +19,6 @@ use Rattle.records.specs.declared.ParamParts.{ParamParts}
 use Rattle.values.specs.Rest.{rest}
 use Rattle.values.proofs.Values.{value_meant}
 use Rattle.named.specs.First.{Listed, FirstCoded, found}
-use Rattle.named.specs.declared.Named.{Named}
-use Rattle.named.specs.declared.Named.TheVariants.{Found, Absent}
 use Rattle.named.proofs.ByName.{by_rel, by_anchor}
 use Rattle.named.proofs.Looking.{listed, own_params}
 use Rattle.catalogues.specs.Steps.{follows}
@@ -37,7 +36,7 @@ module _ {t : Table} {i : ℕ} (u : Usable Rfc5988 t) (l : i < t.link_count) {r 
   listed_here = listed u.good l is
 
   -- what was found for a code, a, was told apart as b
-  module _ {a b : Named} (e : a ≡ b) where
+  module _ {a b : Option ParamParts} (e : a ≡ b) where
     its_anchor : FirstCoded t.param_slots r 2 a → named t.text (octets "anchor") (params_of t i) ≡ found b
     its_anchor h =
         ap (named t.text (octets "anchor")) (own_params t.param_slots is)
@@ -49,23 +48,23 @@ module _ {t : Table} {i : ℕ} (u : Usable Rfc5988 t) (l : i < t.link_count) {r 
         ∙ by_rel t.text t.param_slots listed_here ∙ h ∙ ap found e
 
   -- with an anchor it isn't followed
-  pub anchored : (q : List ℕ) {a : Named} {p : ParamParts} → a ≡ Found p → FirstCoded t.param_slots r 2 a → Tells t i q false
+  pub anchored : (q : List ℕ) {a : Option ParamParts} {p : ParamParts} → a ≡ Some p → FirstCoded t.param_slots r 2 a → Tells t i q false
   anchored q e h = rw (its_anchor e h)
 
   -- with none, it is if a run of its `rel` compares equal
-  module _ {b : Named} {p : ParamParts} (e : b ≡ Found p) (h : FirstCoded t.param_slots r 1 b) where
+  module _ {b : Option ParamParts} {p : ParamParts} (e : b ≡ Some p) (h : FirstCoded t.param_slots r 1 b) where
     rel_good : GoodParam (further Rfc5988) t.text (to_param p)
     rel_good = named_each t.text (octets "rel") (good_link u.good l).params (its_rel e h)
 
     pub rel_span : InText t.text p.value.from.0 p.value.to.0
     rel_span = rel_good.value_span
 
-  module _ (q : List ℕ) {a b : Named} (e : a ≡ Absent) (h : FirstCoded t.param_slots r 2 a) (k : FirstCoded t.param_slots r 1 b) where
-    pub no_rel : b ≡ Absent → Tells t i q false
+  module _ (q : List ℕ) {a b : Option ParamParts} (e : a ≡ None) (h : FirstCoded t.param_slots r 2 a) (k : FirstCoded t.param_slots r 1 b) where
+    pub no_rel : b ≡ None → Tells t i q false
     unfolding has_relation relations
     no_rel y = rw (its_anchor e h, its_rel y k)
 
-    pub by_run : {p : ParamParts} {c : Bool} → b ≡ Found p
+    pub by_run : {p : ParamParts} {c : Bool} → b ≡ Some p
         → c ≡ any_folded q (runs (rest t.text p.value.to.0 p.value.from.0)) → Tells t i q c
     unfolding has_relation relations
     by_run y z = rw (its_anchor e h, its_rel y k, value_meant (rel_good y k)) z

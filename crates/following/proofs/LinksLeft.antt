@@ -16,7 +16,7 @@ use Rattle.records.specs.declared.LinkRecord.{LinkRecord}
 use Rattle.records.proofs.Told.{link_told}
 use Rattle.catalogues.specs.Steps.{follows, first_link}
 use Rattle.following.specs.Followed.{IsFollowed, nowhere, target}
-use Rattle.following.specs.declared.Followed.TheVariants.{Target, Nowhere}
+use Rattle.std.specs.Prelude.{Some, None}
 
 pub record LinksLeft (t : Table) (q : List ℕ) (i : ℕ) : Type 0 where
   pub left : first_link t.text q (links_of t) ≡ first_link t.text q (links_from t.link_slots t.param_slots i (t.link_count - i))
@@ -25,7 +25,7 @@ pub all_left : {t : Table} {q : List ℕ} {i : ℕ} → i ≡ 0 → LinksLeft t 
 all_left {t} e = let n : t.link_count - 0 ≡ t.link_count = omega arith in record { left = rw (e, n) }
 
 module _ {t : Table} {q : List ℕ} {i : ℕ} (w : LinksLeft t q i) where
-  pub none_left : t.link_count ≤ i → IsFollowed t q Nowhere
+  pub none_left : t.link_count ≤ i → IsFollowed t q None
   none_left h = let n : t.link_count - i ≡ 0 = omega arith in nowhere (rw n at w.left)
 
   -- that the link at i is followed is b
@@ -37,7 +37,7 @@ module _ {t : Table} {q : List ℕ} {i : ℕ} (w : LinksLeft t q i) where
     onward e = rw (add-one i) (record { left = rw (more, sym told ∙ e) at w.left })
 
     -- its record is r
-    pub here : Good (further Rfc5988) t → {r : LinkRecord} → IsLink t.link_slots i r → b ≡ true → IsFollowed t q (Target r.target)
+    pub here : Good (further Rfc5988) t → {r : LinkRecord} → IsLink t.link_slots i r → b ≡ true → IsFollowed t q (Some r.target)
     here g {r} is e =
         let own = link_told t.param_slots is in
         let good = subst (GoodLink (further Rfc5988) t.text) (sym own) (good_link g l) in

@@ -3,24 +3,18 @@
 
 ghost use Rattle.std.specs.Prelude.{◌≡◌, ◌<◌};
 ghost use Rattle.octets.specs.declared.editions.Edition.TheVariants.{Rfc5988};
-ghost use Rattle.tables.specs.Table.{table_of, link_at};
+ghost use Rattle.tables.specs.Table.{link_at};
 ghost use Rattle.tables.specs.Good.{InText};
 ghost use Rattle.tables.specs.Relation.{any_folded, runs};
 ghost use Rattle.values.specs.Rest.{rest};
 ghost use Rattle.outcomes.specs.Usable.{Usable};
 ghost use Rattle.catalogues.specs.Steps.{follows};
 ghost use Rattle.following.specs.Followed.{IsFollowed};
+ghost use Rattle.lent.specs.Lent.{lent};
 
-use kinds::{Counts, LinkNumber, Span};
-use named::Named;
+use kinds::{LinkNumber, Span};
+use lent::Table;
 use runs::{match_run, next_run};
-
-// Where the target of that link stands, or that there is none.
-#[derive(Clone, Copy)]
-pub enum Followed {
-    Target(Span),
-    Nowhere,
-}
 
 // Whether a run of what the part means compares equal to the relation.
 fn has_run(text: &[u8], part: Span, relation: &[u8]) -> bool
@@ -40,54 +34,36 @@ fn has_run(text: &[u8], part: Span, relation: &[u8]) -> bool
 }
 
 // Whether a link has the relation and no `anchor`.
-fn is_followed(
-    text: &[u8],
-    links: &[usize],
-    params: &[usize],
-    counts: Counts,
-    link: LinkNumber,
-    relation: &[u8],
-) -> bool
-    requires usable { Usable Rfc5988 (table_of text.now links.now params.now counts.links counts.params) }
-    requires link_lt_links { link.0 < counts.links }
-    ensures { result ≡ follows text.now relation.now (link_at links.now params.now link.0) }
+fn is_followed(t: &Table, link: LinkNumber, relation: &[u8]) -> bool
+    requires usable { Usable Rfc5988 (lent t.now) }
+    requires link_lt_links { link.0 < t.now.counts.links }
+    ensures { result ≡ follows t.now.text.now relation.now (link_at t.now.links.now t.now.params.now link.0) }
 {
-    let l = records::link_at(links, link);
-    let anchor = named::first_of(params, l, names::ANCHOR);
+    let l = records::link_at(t.links, link);
+    let anchor = named::first_of(t.params, l, names::ANCHOR);
     match anchor {
-        Named::Found(_) => false,
-        Named::Absent => {
-            let rel = named::first_of(params, l, names::REL);
+        Some(_) => false,
+        None => {
+            let rel = named::first_of(t.params, l, names::REL);
             match rel {
-                Named::Absent => false,
-                Named::Found(p) => {
-                    let part = p.value;
-                    has_run(text, part, relation)
-                }
+                None => false,
+                Some(p) => has_run(t.text, p.value, relation),
             }
         }
     }
 }
 
-// The first link that is followed. The older edition stands for all: what is good in any of them is good in it.
-pub fn first_followed(
-    text: &[u8],
-    links: &[usize],
-    params: &[usize],
-    counts: Counts,
-    relation: &[u8],
-) -> Followed
-    requires { Usable Rfc5988 (table_of text.now links.now params.now counts.links counts.params) }
-    ensures { IsFollowed (table_of text.now links.now params.now counts.links counts.params)
+// Where the target of the first link that is followed stands, or none if no link is followed. The older edition stands for all: what is good in any of them is good in it.
+pub fn first_followed(t: &Table, relation: &[u8]) -> Option<Span>
+    requires { Usable Rfc5988 (lent t.now) }
+    ensures { IsFollowed (lent t.now)
         relation.now result }
 {
-    let mut i = LinkNumber::first();
-    while i.0 < counts.links {
-        if is_followed(text, links, params, counts, i, relation) {
-            let target = records::link_at(links, i).target;
-            return Followed::Target(target);
+    for i in 0..t.counts.links {
+        let link = LinkNumber(i);
+        if is_followed(t, link, relation) {
+            return Some(records::link_at(t.links, link).target);
         }
-        i = i.next();
     }
-    Followed::Nowhere
+    None
 }

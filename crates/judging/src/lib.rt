@@ -6,7 +6,6 @@ ghost use Rattle.std.specs.Prelude.{◌≡◌};
 ghost use Rattle.tables.specs.Good.{InText};
 ghost use Rattle.values.specs.Rest.{rest};
 ghost use Rattle.reference_steps.specs.Machine.{run, accepts};
-ghost use Rattle.octet_classes.specs.Classes.{Classes};
 
 use cursor::Cursor;
 use kinds::{Place, Span};
@@ -19,15 +18,16 @@ const URI: usize = 55;
 
 // Whether what the part means is a reference. No state takes a backslash, so that judging stops at each, and goes on behind it with the
 // octet that it stands for; one at the part's end stands for none.
-pub fn is_meant_reference(classes: &[u8; 256], s: &[u8], part: Span) -> bool
-    requires { InText s.now part.from.0 part.to.0 × Classes classes.now }
+pub fn is_meant_reference(s: &[u8], part: Span) -> bool
+    requires { InText s.now part.from.0 part.to.0 }
     ensures { result ≡ accepts (run 0 (rest s.now part.to.0 part.from.0)) }
 {
     let to = part.to.0;
     let mut i = part.from.0;
     let mut q = 0;
+    // Each turn passes a run of any length and a pair, so a for loop doesn't fit.
     loop {
-        let j = judge(classes, &s[..to], Cursor { at: Place(i) }, q);
+        let j = judge(&s[..to], Cursor { at: Place(i) }, q);
         let k = j.at.at.0;
         if k >= to {
             return accepts(j.state);
@@ -39,7 +39,7 @@ pub fn is_meant_reference(classes: &[u8; 256], s: &[u8], part: Span) -> bool
         if p >= to {
             return accepts(j.state);
         }
-        q = next(classes, j.state, s[p]);
+        q = next(j.state, s[p]);
         if q == NOWHERE {
             return false;
         }
@@ -48,13 +48,8 @@ pub fn is_meant_reference(classes: &[u8; 256], s: &[u8], part: Span) -> bool
 }
 
 // Whether the text is a URI.
-pub fn is_uri(classes: &[u8; 256], s: &[u8]) -> bool
-    requires { Classes classes.now }
+pub fn is_uri(s: &[u8]) -> bool
     ensures { result ≡ accepts (run 55 s.now) }
 {
-    let whole = Span {
-        from: Place(0),
-        to: Place(s.len()),
-    };
-    accepts(run_over(classes, s, whole, URI))
+    accepts(run_over(s, Span::up_to(s.len()), URI))
 }

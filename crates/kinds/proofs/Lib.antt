@@ -1,3 +1,4 @@
--- Laws about octets stored one behind another, for other crates to cite.
+-- Laws about octets stored one behind another, and of the part up to a text's end, for other crates to cite.
 pub mod Stores
 pub mod Putting
+pub mod UpTo

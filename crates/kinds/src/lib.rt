@@ -38,6 +38,8 @@ pub struct Span {
     pub to: Place,
 }
 
+// Each kind has a `next` of its own: one trait for the four would be no plainer, since each kind would still give it its number, the way
+// back from a number and a law, and each crate that calls `next` would import it.
 impl Place {
     // The place behind this one.
     pub fn next(self) -> Place
@@ -124,6 +126,16 @@ impl Counts {
 }
 
 impl Span {
+    // The first n octets of a text: all of it, where it has n.
+    pub fn up_to(n: usize) -> Span
+        ensures { (result.from.0 ≡ 0) × (result.to.0 ≡ n) }
+    {
+        Span {
+            from: Place(0),
+            to: Place(n),
+        }
+    }
+
     // How many octets the part has.
     pub fn len(self) -> usize
         requires { self.from.0 ≤ self.to.0 }

@@ -2,7 +2,6 @@
 ghost use Rattle.octets.specs.Editions.{further};
 ghost use Rattle.records.specs.Slots.{to_param};
 ghost use Rattle.scan_parts.specs.Parsed.{Parsed};
-ghost use Rattle.octet_classes.specs.Classes.{Classes};
 ghost use Rattle.known.specs.Known.{KnownParam};
 
 use crate::value::read_value;
@@ -17,15 +16,15 @@ pub struct ParamRead {
     pub next: Cursor,
 }
 
-pub fn read_param(classes: &[u8; 256], edition: Edition, s: &[u8], from: Cursor) -> ParamRead
-    requires { KnownParam (further edition) s.now from.at.0 × Classes classes.now }
+pub fn read_param(edition: Edition, s: &[u8], from: Cursor) -> ParamRead
+    requires { KnownParam (further edition) s.now from.at.0 }
     ensures { Parsed (further edition) s.now from.at.0 (to_param result.parts) result.next.at.0 }
 {
-    let e = from.past_token(classes, s);
+    let e = from.past_token(s);
     let name = from.span_to(e);
-    let k = e.past_blanks(classes, s);
+    let k = e.past_blanks(s);
     if k.sees(s, b'=') {
-        let v = read_value(classes, edition, s, k.past_octet(s).past_blanks(classes, s));
+        let v = read_value(edition, s, k.past_octet(s).past_blanks(s));
         let value = v.span;
         let next = v.next;
         return ParamRead {

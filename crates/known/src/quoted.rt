@@ -10,6 +10,7 @@ pub fn inside_end(s: &[u8], from: Cursor) -> Cursor
     ensures { Inside s.now from.at.0 result.at.0 × At s.now result.at.0 34 }
 {
     let mut c = from;
+    // A turn passes one octet, or a backslash and the octet behind it, so no `for` fits.
     loop {
         if c.sees(s, b'"') {
             return c;

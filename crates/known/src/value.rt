@@ -1,7 +1,6 @@
 // A value that is known to be derived, behind `=` and blanks.
 ghost use Rattle.octets.specs.Editions.{further};
 ghost use Rattle.scan_parts.specs.Parsed.{ParsedValue};
-ghost use Rattle.octet_classes.specs.Classes.{Classes};
 ghost use Rattle.known.specs.Known.{KnownValue};
 
 use crate::quoted::inside_end;
@@ -18,8 +17,8 @@ pub struct ValueRead {
     pub next: Cursor,
 }
 
-pub fn read_value(classes: &[u8; 256], edition: Edition, s: &[u8], from: Cursor) -> ValueRead
-    requires { KnownValue (further edition) s.now from.at.0 × Classes classes.now }
+pub fn read_value(edition: Edition, s: &[u8], from: Cursor) -> ValueRead
+    requires { KnownValue (further edition) s.now from.at.0 }
     ensures { ParsedValue (further edition) s.now from.at.0 result.span.from.0 result.span.to.0 result.form result.next.at.0 }
 {
     if from.sees(s, b'"') {
@@ -31,8 +30,8 @@ pub fn read_value(classes: &[u8; 256], edition: Edition, s: &[u8], from: Cursor)
             next: q.past_octet(s),
         };
     }
-    let k = from.past_token(classes, s);
-    let e = k.past_further(classes, s, edition);
+    let k = from.past_token(s);
+    let e = k.past_further(s, edition);
     ValueRead {
         span: from.span_to(e),
         form: bare_form(k, e),

@@ -52,6 +52,7 @@ pub fn trim(s: &[u8], part: Span) -> Place
 {
     let to = part.to;
     let mut k = part.from;
+    // Each turn passes a segment of any length, so a for loop doesn't fit.
     loop {
         let n = behind_dots(s, k, to);
         if n.0 == k.0 {

@@ -7,12 +7,12 @@ ghost use Rattle.kinds.specs.Put.{Put};
 ghost use Rattle.outcomes.specs.Usable.{Usable};
 ghost use Rattle.outcomes.specs.Write.{written_form};
 ghost use Rattle.records.specs.Slots.{to_link};
-ghost use Rattle.tables.specs.Table.{table_of};
 ghost use Rattle.tables.specs.Good.{InText};
 ghost use Rattle.shape.specs.Forms.{link_form, parting, GoodRun};
-ghost use Rattle.octet_classes.specs.Classes.{Classes};
+ghost use Rattle.lent.specs.Lent.{lent};
 
-use kinds::{Counts, LinkNumber, OutPlace};
+use kinds::{LinkNumber, OutPlace};
+use lent::Table;
 use param_forms::put_params;
 use putting::part::put_part;
 use putting::{put, put_two};
@@ -30,18 +30,10 @@ fn put_parting(out: &mut [u8], at: OutPlace, first: bool) -> OutPlace
 }
 
 // One link: `<`, target, `>` and its parameters.
-fn put_link(
-    classes: &[u8; 256],
-    text: &[u8],
-    params: &[usize],
-    l: LinkRecord,
-    out: &mut [u8],
-    at: OutPlace,
-) -> OutPlace
+fn put_link(text: &[u8], params: &[usize], l: LinkRecord, out: &mut [u8], at: OutPlace) -> OutPlace
     requires in_text { InText text.now l.target.from.0 l.target.to.0 }
     requires good_run { GoodRun text.now params.now l.first.0 (l.first.0 + l.count) }
     requires l_in_bounds { at.0 + length (link_form text.now (to_link params.now l)) ≤ length out.old }
-    requires classes { Classes classes.now }
     ensures { Put out.old out.new at.0 result.0
         (link_form text.now (to_link params.now l)) }
 {
@@ -50,31 +42,21 @@ fn put_link(
     let behind = put(out, close, b'>');
     let first = l.first;
     let end = first.plus(l.count);
-    put_params(classes, text, params, first, end, out, behind)
+    put_params(text, params, first, end, out, behind)
 }
 
 // All links, from the buffer's first octet on.
-pub fn put_links(
-    classes: &[u8; 256],
-    text: &[u8],
-    links: &[usize],
-    params: &[usize],
-    counts: Counts,
-    out: &mut [u8],
-) -> OutPlace
-    requires usable { Usable Rfc5988 (table_of text.now links.now params.now counts.links counts.params) }
-    requires params_in_bounds { length (written_form (table_of text.now links.now params.now counts.links counts.params)) ≤ length out.old }
-    requires classes { Classes classes.now }
+pub fn put_links(t: &Table, out: &mut [u8]) -> OutPlace
+    requires usable { Usable Rfc5988 (lent t.now) }
+    requires params_in_bounds { length (written_form (lent t.now)) ≤ length out.old }
     ensures { Put out.old out.new 0 result.0
-        (written_form (table_of text.now links.now params.now counts.links counts.params)) }
+        (written_form (lent t.now)) }
 {
     let mut at = OutPlace::start();
-    let mut i = LinkNumber::first();
-    while i.0 < counts.links {
-        let l = records::link_at(links, i);
-        let behind = put_parting(out, at, i.0 == 0);
-        at = put_link(classes, text, params, l, out, behind);
-        i = i.next();
+    for i in 0..t.counts.links {
+        let l = records::link_at(t.links, LinkNumber(i));
+        let behind = put_parting(out, at, i == 0);
+        at = put_link(t.text, t.params, l, out, behind);
     }
     at
 }

@@ -5,21 +5,21 @@ use mathlib.Core.Path.{◌≡◌, ap, subst, ◌∙◌}
 use mathlib.Core.List.{List}
 use lib.ListN.{length, take, drop, length-append}
 use lib.Seq.{slice, take-length, length-take-le, length-sets}
+use Rattle.std.specs.Prelude.{Result, Ok}
 use Rattle.kinds.specs.Put.{Put}
 use Rattle.tables.specs.Table.{Table}
+use Rattle.answers.specs.declared.Refusal.{Refusal}
 use Rattle.link_lines.specs.Link.{LinkOn, target_refused, context_refused, both}
 use Rattle.link_lines.specs.Line.{Holds}
-use Rattle.link_lines.specs.declared.LinkResolved.{LinkResolved}
-use Rattle.link_lines.specs.declared.LinkResolved.TheVariants.{Resolved}
 
 -- the part of a text that is all of it
 pub whole_part : (s : List ℕ) {n : ℕ} → n ≡ length s → slice 0 n s ≡ s
 whole_part s h = ap (λ (k : ℕ). take k s) h ∙ take-length s
 
 -- the answer tells how many octets both buffers hold
-module _ (T C : List ℕ) {a : LinkResolved} {n m : ℕ} (h : Holds a T C) (e : a ≡ Resolved n m) where
+module _ (T C : List ℕ) {a : Result (ℕ × ℕ) Refusal} {n m : ℕ} (h : Holds a T C) (e : a ≡ Ok (n, m)) where
   held : (n ≤ length T) × (m ≤ length C)
-  held = subst (λ (x : LinkResolved). Holds x T C) e h
+  held = subst (λ (x : Result (ℕ × ℕ) Refusal). Holds x T C) e h
 
   pub first_cut : n ≡ length (take n T)
   first_cut = omega (arith, length-take-le n T held.0)
@@ -35,7 +35,7 @@ pub put_inside : {old new bs : List ℕ} {at to : ℕ} → Put old new at to bs 
 put_inside {old} {new} {bs} {at} p h = omega (arith, h, p.place, ap length p.buffer, length-sets old at bs)
 
 -- a link that is resolved has its octets in both buffers
-pub resolved_held : {n : ℕ} {t : Table} {base : List ℕ} {i : ℕ} {T C : List ℕ} {a : LinkResolved} {T' C' : List ℕ}
+pub resolved_held : {n : ℕ} {t : Table} {base : List ℕ} {i : ℕ} {T C : List ℕ} {a : Result (ℕ × ℕ) Refusal} {T' C' : List ℕ}
     → LinkOn n t base i T C a T' C' → Holds a T' C'
 resolved_held (target_refused x) = tt
 resolved_held (context_refused v x y) = tt

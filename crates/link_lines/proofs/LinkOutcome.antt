@@ -3,6 +3,7 @@ use Prim.Native.Nat.{ℕ, ◌-◌}
 use mathlib.Core.Path.{◌≡◌, sym, subst}
 use mathlib.Core.List.{List}
 use lib.ListN.{length, take, drop}
+use Rattle.std.specs.Prelude.{Result, Ok, Err}
 use Rattle.octets.proofs.Laws.{slice_take_drop}
 use Rattle.tables.specs.Table.{Table}
 use Rattle.records.specs.declared.LinkRecord.{LinkRecord}
@@ -13,11 +14,8 @@ use Rattle.outcomes.specs.ResolvedContext.{ResolvedContext}
 use Rattle.outcomes.proofs.Refusing.{refusals}
 use Rattle.answers.specs.Length.{length_numbers, length_out}
 use Rattle.answers.specs.declared.Refusal.{Refusal}
-use Rattle.answers.specs.declared.length_answer.LengthAnswer.{LengthAnswer}
-use Rattle.answers.specs.declared.length_answer.LengthAnswer.TheVariants as answer
 use Rattle.link_lines.specs.Held.{TargetHeld}
 use Rattle.link_lines.specs.Link.{target_of, over, LinkOn, target_refused, context_refused, both}
-use Rattle.link_lines.specs.declared.LinkResolved.TheVariants.{Resolved, Refused}
 use Rattle.link_lines.proofs.Written.{wrote, left, resolve_held, context_held}
 
 -- l is link record number i of the table t, and its target stands in the text
@@ -40,24 +38,24 @@ module _
     of_link {o} x =
         subst (λ (w : List ℕ). Resolve w base T o) (sym (slice_take_drop _ _ t.text held.span.ordered)) (rw (is.from, is.to) at x)
 
-    module _ {T' : List ℕ} {r : LengthAnswer} (x : Target (length_out (length_numbers r) T')) where
+    module _ {T' : List ℕ} {r : Result ℕ Refusal} (x : Target (length_out (length_numbers r) T')) where
       -- the target is refused
-      pub no_target : {why : Refusal} → r ≡ answer.Refused why → LinkOn n t base i T C (Refused why) T' C
+      pub no_target : {why : Refusal} → r ≡ Err why → LinkOn n t base i T C (Err why) T' C
       no_target e =
           let b = left (refusals.resolve (target_of t i) base T) (of_link x) e in
           rw b.1 (target_refused b.0)
 
-      module _ {C' : List ℕ} {s : LengthAnswer} {k : ℕ} (e : r ≡ answer.Wrote k)
+      module _ {C' : List ℕ} {s : Result ℕ Refusal} {k : ℕ} (e : r ≡ Ok k)
           (y : ResolvedContext n t base i C (length_out (length_numbers s) C')) where
         -- it is written, and the context is refused
-        pub no_context : {why : Refusal} → s ≡ answer.Refused why → LinkOn n t base i T C (Refused why) T' C'
+        pub no_context : {why : Refusal} → s ≡ Err why → LinkOn n t base i T C (Err why) T' C'
         no_context f =
             let v = wrote (resolve_held (target_of t i) base T) (of_link x) e in
             let b = left (refusals.resolved_context n t base i C) y f in
             rw (v.3, b.1) (context_refused v.0 v.1 b.0)
 
         -- both are written
-        pub both_written : {m : ℕ} → s ≡ answer.Wrote m → LinkOn n t base i T C (Resolved k m) T' C'
+        pub both_written : {m : ℕ} → s ≡ Ok m → LinkOn n t base i T C (Ok (k, m)) T' C'
         both_written {m} f =
             let v = wrote (resolve_held (target_of t i) base T) (of_link x) e in
             let w = wrote (context_held n t base i C) y f in
@@ -65,5 +63,5 @@ module _
           where
             holding_both : (v w : List ℕ) → k ≡ length v → T' ≡ over v T → m ≡ length w → C' ≡ over w C
                 → Resolve (target_of t i) base T (holding T v) → ResolvedContext n t base i C (holding C w)
-                → LinkOn n t base i T C (Resolved k m) T' C'
+                → LinkOn n t base i T C (Ok (k, m)) T' C'
             holding_both v w a b c d p q = rw (a, b, c, d) (both v w p q)

@@ -6,6 +6,7 @@ use mathlib.Core.Bool.{false≢true}
 use mathlib.Core.List.{List}
 use borrow.Author.Tests.{eq-eqb}
 use lib.ListN.{length}
+use Rattle.std.specs.Prelude.{Result, Ok, Err}
 use Rattle.octets.specs.declared.editions.Edition.{Edition}
 use Rattle.tables.specs.Table.{Table}
 use Rattle.outcomes.specs.Number.{done}
@@ -20,8 +21,6 @@ use Rattle.outcomes.specs.Laws.{CopyKeeps}
 use Rattle.answers.specs.Refusal.{refusal_number}
 use Rattle.answers.specs.Length.{length_numbers, length_out}
 use Rattle.answers.specs.declared.Refusal.{Refusal}
-use Rattle.answers.specs.declared.length_answer.LengthAnswer.{LengthAnswer}
-use Rattle.answers.specs.declared.length_answer.LengthAnswer.TheVariants.{Wrote, Refused}
 use Rattle.answers.proofs.Refusals.{no_refusal_is_done}
 use Rattle.link_lines.specs.Link.{over}
 
@@ -61,18 +60,18 @@ context_held n t base i out _ (known q x) e = context_in x e
 -- Out is what an entry promises, into a buffer that held `out` and holds `new`
 module _ {Out : CopyOut → Type 0} {out new : List ℕ} where
   -- it answers that it wrote n octets: they are v
-  pub wrote : {r : LengthAnswer} {n : ℕ} → ((o : CopyOut) → Out o → Held out o) → Out (length_out (length_numbers r) new) → r ≡ Wrote n
+  pub wrote : {r : Result ℕ Refusal} {n : ℕ} → ((o : CopyOut) → Out o → Held out o) → Out (length_out (length_numbers r) new) → r ≡ Ok n
       → (v : List ℕ) × Out (holding out v) × (n ≡ length v) × (new ≡ over v out)
   wrote {r} {n} held x e =
-      let y = subst (λ (a : LengthAnswer). Out (length_out (length_numbers a) new)) e x in
+      let y = subst (λ (a : Result ℕ Refusal). Out (length_out (length_numbers a) new)) e x in
       let h = held _ y refl in
       (h.0, subst Out h.1 y, ap (λ (o : CopyOut). o.count) h.1, ap (λ (o : CopyOut). o.buffer) h.1)
 
   -- it refuses: the buffer is left
-  pub left : {r : LengthAnswer} {why : Refusal} → ((o : CopyOut) → Out o → CopyKeeps out o) → Out (length_out (length_numbers r) new)
-      → r ≡ Refused why → Out (untouched out (refusal_number why)) × (new ≡ out)
+  pub left : {r : Result ℕ Refusal} {why : Refusal} → ((o : CopyOut) → Out o → CopyKeeps out o) → Out (length_out (length_numbers r) new)
+      → r ≡ Err why → Out (untouched out (refusal_number why)) × (new ≡ out)
   left {r} {why} keeps x e =
-      let y = subst (λ (a : LengthAnswer). Out (length_out (length_numbers a) new)) e x in
+      let y = subst (λ (a : Result ℕ Refusal). Out (length_out (length_numbers a) new)) e x in
       let same : new ≡ out =
       ((keeps _ y).refused (λ z. false≢true (sym (no_refusal_is_done why) ∙ eq-eqb (refusal_number why) done z))).1 in
-      (subst (λ (b : List ℕ). Out (length_out (length_numbers (Refused why)) b)) same y, same)
+      (subst (λ (b : List ℕ). Out (length_out (length_numbers (Err why)) b)) same y, same)

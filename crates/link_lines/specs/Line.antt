@@ -1,27 +1,26 @@
 -- The line of a link.
-use Rattle.std.specs.Prelude.{ℕ, ◌≤◌, List, length, take}
+use Rattle.std.specs.Prelude.{ℕ, ◌≤◌, List, length, take, Result, Ok, Err}
 use Rattle.tables.specs.Table.{Table}
 use Rattle.kinds.specs.Put.{Put}
 use Rattle.answers.specs.Refusal.{refusal_number}
+use Rattle.answers.specs.declared.Refusal.{Refusal}
 use Rattle.lines.specs.Line.{refusal_line}
 use Rattle.resolved_lines.specs.ResolvedLine.{resolved_line}
 use Rattle.link_lines.specs.Link.{LinkOn}
-use Rattle.link_lines.specs.declared.LinkResolved.{LinkResolved}
-use Rattle.link_lines.specs.declared.LinkResolved.TheVariants.{Resolved, Refused}
 
 -- of an answer for link number i, with what both buffers hold
-abbrev pub answer_line : ℕ → LinkResolved → List ℕ → List ℕ → List ℕ
-answer_line i (Resolved n m) T C = resolved_line i (take n T) (take m C)
-answer_line i (Refused why) T C = refusal_line (refusal_number why) 0
+abbrev pub answer_line : ℕ → Result (ℕ × ℕ) Refusal → List ℕ → List ℕ → List ℕ
+answer_line i (Ok (n, m)) T C = resolved_line i (take n T) (take m C)
+answer_line i (Err why) T C = refusal_line (refusal_number why) 0
 
 -- the buffers hold as many octets as the answer tells
-abbrev pub Holds : LinkResolved → List ℕ → List ℕ → Type 0
-Holds (Resolved n m) T C = (n ≤ length T) × (m ≤ length C)
-Holds (Refused why) T C = Unit
+abbrev pub Holds : Result (ℕ × ℕ) Refusal → List ℕ → List ℕ → Type 0
+Holds (Ok (n, m)) T C = (n ≤ length T) × (m ≤ length C)
+Holds (Err why) T C = Unit
 
 -- In the edition numbered n, link number i of the table t is resolved on a base, by way of buffers that held T and C and hold T' and C',
 -- and its line is put at the start of a buffer that held `old` and holds `new`, up to place `to`.
 pub record LineOn (n : ℕ) (t : Table) (base : List ℕ) (i : ℕ) (T C T' C' old new : List ℕ) (to : ℕ) : Type 0 where
-  pub answer : LinkResolved
+  pub answer : Result (ℕ × ℕ) Refusal
   pub resolved : LinkOn n t base i T C answer T' C'
   pub line : Put old new 0 to (answer_line i answer T' C')

@@ -8,69 +8,51 @@ ghost use Rattle.kinds.specs.Put.{Put};
 ghost use Rattle.columns.specs.LineHolds.{octets_of, LineHolds};
 ghost use Rattle.lines.specs.Line.{refusal_line};
 ghost use Rattle.answers.specs.Refusal.{refusal_number};
-ghost use Rattle.tables.specs.Table.{table_of};
 ghost use Rattle.link_lines.specs.Held.{TargetHeld};
 ghost use Rattle.link_lines.specs.Line.{answer_line, Holds, LineOn};
 ghost use Rattle.link_lines.specs.Link.{LinkOn};
+ghost use Rattle.lent.specs.Lent.{lent};
 
 use answers::Refusal;
-use answers::length_answer::LengthAnswer;
-use answers::read_answer::ReadAnswer;
+use answers::read_answer::ReadError;
 use columns::Line;
 use kinds::{Counts, LinkNumber, OutPlace, Place, Span};
+use lent::Table;
 use putting::part::put_part;
 use resolved::resolved_context;
 use resolved_lines::put_line;
 use resolving::resolve;
 
 // How many octets a link's target and its context have, resolved; or why one of them is refused.
-#[derive(Clone, Copy)]
-pub enum LinkResolved {
-    Resolved(usize, usize),
-    Refused(Refusal),
-}
+pub type LinkResolved = Result<(usize, usize), Refusal>;
 
 // Resolves a link's target, and then its context.
 pub fn resolve_link(
     edition: usize,
-    text: &[u8],
+    t: &Table,
     base: &[u8],
-    links: &[usize],
-    params: &[usize],
-    counts: Counts,
     link: LinkNumber,
     target: &mut [u8],
     context: &mut [u8],
 ) -> LinkResolved
-    requires { TargetHeld text.now links.now link.0 }
+    requires { TargetHeld t.now.text.now t.now.links.now link.0 }
     ensures { LinkOn edition
-        (table_of text.now links.now params.now counts.links counts.params)
+        (lent t.now)
         base.now link.0 target.old context.old result target.new context.new }
 {
-    let part = records::link_at(links, link).target;
+    let part = records::link_at(t.links, link).target;
     let from = part.from.0;
     let to = part.to.0;
-    let first = resolve(&text[from..to], base, target);
-    match first {
-        LengthAnswer::Refused(why) => LinkResolved::Refused(why),
-        LengthAnswer::Wrote(n) => {
-            let second = resolved_context(
-                edition, text, base, links, params, counts, link, context,
-            );
-            match second {
-                LengthAnswer::Refused(why) => LinkResolved::Refused(why),
-                LengthAnswer::Wrote(m) => LinkResolved::Resolved(n, m),
-            }
-        }
-    }
+    let n = resolve(&t.text[from..to], base, target)?;
+    let m = resolved_context(edition, t, base, link, context)?;
+    Ok((n, m))
 }
 
 // The line of a link whose answer refuses, and of a base that is refused: that of such a header.
 pub fn refused_line(why: Refusal) -> Line
     ensures { LineHolds result (refusal_line (refusal_number why) 0) }
 {
-    let answer = ReadAnswer::Refused(why);
-    lines::refusal_line(answer.numbers())
+    lines::refusal_line(Err(ReadError::Refused(why)).into())
 }
 
 // Puts a line that is known at a buffer's start, and answers its length.
@@ -102,34 +84,29 @@ fn put_answer(
     ensures upper_bound { result ≤ length line.new }
 {
     match answer {
-        LinkResolved::Resolved(n, m) => put_line(link.0, &target[..n], &context[..m], line),
-        LinkResolved::Refused(why) => copy_line(refused_line(why), line),
+        Ok((n, m)) => put_line(link.0, &target[..n], &context[..m], line),
+        Err(why) => copy_line(refused_line(why), line),
     }
 }
 
 // Resolves a link and puts its line at a buffer's start, and answers the line's length.
 pub fn put_link(
     edition: usize,
-    text: &[u8],
+    t: &Table,
     base: &[u8],
-    links: &[usize],
-    params: &[usize],
-    counts: Counts,
     link: LinkNumber,
     target: &mut [u8],
     context: &mut [u8],
     line: &mut [u8],
 ) -> usize
-    requires target_held { TargetHeld text.now links.now link.0 }
+    requires target_held { TargetHeld t.now.text.now t.now.links.now link.0 }
     requires context_in_bounds { length target.old + length context.old + 160 ≤ length line.old }
     ensures line_on { LineOn edition
-        (table_of text.now links.now params.now counts.links counts.params)
+        (lent t.now)
         base.now link.0 target.old context.old target.new context.new
         line.old line.new result }
     ensures upper_bound { result ≤ length line.new }
 {
-    let answer = resolve_link(
-        edition, text, base, links, params, counts, link, target, context,
-    );
+    let answer = resolve_link(edition, t, base, link, target, context);
     put_answer(link, answer, target, context, line)
 }

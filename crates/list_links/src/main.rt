@@ -14,7 +14,8 @@ fn main() {
     let n = io::read_full(0, &mut input);
     let mut links = [0usize; LINKS];
     let mut params = [0usize; PARAMS];
-    listing::list(
+    // What it answers is listed.
+    let _ = listing::list(
         octets::editions::RFC8288,
         lines::without_final_lf(&input[..n]),
         &mut links,

@@ -1,9 +1,10 @@
 -- A table that is held is passed link by link, and reading leaves one.
 use Prim.Native.Nat.{ℕ, zero, suc, ◌+◌, ◌≤◌, ◌<◌}
-use mathlib.Core.Path.{◌≡◌, refl, sym, subst, ◌∙◌}
+use mathlib.Core.Path.{◌≡◌, refl, subst}
 use mathlib.Core.List.{List}
 use native.Mathlib.Omega.{arith}
 use native.Mathlib.Numerals.{add-one}
+use Rattle.std.specs.Prelude.{Result, Ok}
 use Rattle.grammar.specs.Records.{link_room_of, param_room_of}
 use Rattle.tables.specs.Table.{first_of, count_of}
 use Rattle.tables.specs.Good.{Follows}
@@ -14,8 +15,7 @@ use Rattle.outcomes.specs.InEdition.{unknown, known}
 use Rattle.outcomes.specs.Read.{ReadOut, Read, too_long, not_derived, no_link_room, no_param_room, reads}
 use Rattle.kinds.specs.declared.Counts.{Counts}
 use Rattle.answers.specs.Read.{read_numbers, read_out}
-use Rattle.answers.specs.declared.read_answer.ReadAnswer.{ReadAnswer}
-use Rattle.answers.specs.declared.read_answer.ReadAnswer.TheVariants.{Done}
+use Rattle.answers.specs.declared.read_answer.ReadError.{ReadError}
 use Rattle.listing.specs.Held.{Held}
 
 -- what is left of a table from link i on: `left` links, whose parameters begin at number `from`
@@ -26,9 +26,8 @@ pub record TableLeft (L P : List ℕ) (n m i : ℕ) : Type 0 where
   pub number : i + left ≡ n
   pub follows : Follows L i left from m
 
-pub begin : {L P : List ℕ} {n m i : ℕ} → Held L P n m → i ≡ 0 → TableLeft L P n m i
-begin {L} {P} {n} {m} h e =
-    subst (TableLeft L P n m) (sym e) (record { held = h; left = n; from = 0; number = omega arith; follows = h.follows })
+pub begin : {L P : List ℕ} {n m : ℕ} → Held L P n m → TableLeft L P n m 0
+begin {n = n} h = record { held = h; left = n; from = 0; number = omega arith; follows = h.follows }
 
 -- the parameters of the links that are left end at the last
 ends : (L : List ℕ) (i n : ℕ) {from m : ℕ} → Follows L i n from m → from ≤ m
@@ -58,8 +57,8 @@ module _ {L P : List ℕ} {n m i : ℕ} where
   pub params_inside : {r : LinkRecord} → TableLeft L P n m i → i < n → IsLink L i r → r.first.0 + r.count ≤ param_room_of P
   params_inside o lt is = omega (arith, (passed o lt).inside, is.first, is.count)
 
-  pub on : {j : ℕ} → TableLeft L P n m i → i < n → j ≡ i + 1 → TableLeft L P n m j
-  on {j} o lt e = subst (TableLeft L P n m) (sym (e ∙ add-one i)) (passed o lt).behind
+  pub on : TableLeft L P n m i → i < n → TableLeft L P n m (i + 1)
+  on o lt = rw (add-one i) (passed o lt).behind
 
 -- what reading answers with number 0 is held
 read_held : {n : ℕ} {h L P : List ℕ} {o : ReadOut} → Read n h L P o → o.number ≡ 0
@@ -74,7 +73,7 @@ read_held (known q (reads a b c d)) e =
     record { link_room = g.link_room; param_room = g.param_room; follows = g.follows }
 
 -- reading's answer, known to be its table's counts
-pub done_held : {m : ℕ} {h L P L' P' : List ℕ} {r : ReadAnswer} {n : Counts} → Read m h L P (read_out (read_numbers r) L' P')
-    → r ≡ Done n → Held L' P' n.links n.params
+pub done_held : {m : ℕ} {h L P L' P' : List ℕ} {r : Result Counts ReadError} {n : Counts} → Read m h L P (read_out (read_numbers r) L' P')
+    → r ≡ Ok n → Held L' P' n.links n.params
 done_held {m} {h} {L} {P} {L'} {P'} d e =
-    read_held (subst (λ (y : ReadAnswer). Read m h L P (read_out (read_numbers y) L' P')) e d) refl
+    read_held (subst (λ (y : Result Counts ReadError). Read m h L P (read_out (read_numbers y) L' P')) e d) refl

@@ -29,11 +29,9 @@ fn put_params(params: &[usize], l: LinkRecord)
 {
     let first = l.first;
     let count = l.count;
-    let mut k = 0;
-    while k < count {
+    for k in 0..count {
         let n = first.plus(k);
         put(lines::param_line(n, records::param_at(params, n)));
-        k += 1;
     }
 }
 
@@ -42,12 +40,11 @@ fn put_table(links: &[usize], params: &[usize], counts: Counts)
     requires { Held links.now params.now counts.links counts.params }
 {
     put(lines::counts_line(counts));
-    let mut i = LinkNumber::first();
-    while i.0 < counts.links {
-        let l = records::link_at(links, i);
-        put(lines::link_line(i, l));
+    for i in 0..counts.links {
+        let n = LinkNumber(i);
+        let l = records::link_at(links, n);
+        put(lines::link_line(n, l));
         put_params(params, l);
-        i = i.next();
     }
 }
 
@@ -57,10 +54,10 @@ pub fn list(edition: usize, header: &[u8], links: &mut [usize], params: &mut [us
         (read_out (read_numbers result) links.new params.new) }
 {
     let answer = reader::read(edition, header, links, params);
-    if let ReadAnswer::Done(counts) = answer {
+    if let Ok(counts) = answer {
         put_table(links, params, counts);
         return answer;
     }
-    put(lines::refusal_line(answer.numbers()));
+    put(lines::refusal_line(answer.into()));
     answer
 }

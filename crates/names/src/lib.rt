@@ -9,7 +9,7 @@ ghost use Rattle.tables.specs.Good.{InText};
 ghost use Rattle.names.specs.Remembers.{none_seen, has_code, with_code};
 
 use folding::compare;
-use kinds::{Place, Span};
+use kinds::Span;
 
 // The codes of the names that are asked for: `rel`, `anchor`, `title` and `title*`.
 pub const REL: usize = 1;
@@ -101,11 +101,5 @@ pub fn code(s: &[u8], name: Span) -> usize
 pub fn code_of(n: &[u8]) -> usize
     ensures { result ≡ code_of (folded n.now) }
 {
-    code(
-        n,
-        Span {
-            from: Place(0),
-            to: Place(n.len()),
-        },
-    )
+    code(n, Span::up_to(n.len()))
 }

@@ -3,7 +3,6 @@
 
 ghost use Rattle.std.specs.Prelude.{◌<◌, length};
 ghost use Rattle.octets.specs.Editions.{further};
-ghost use Rattle.octet_classes.specs.Classes.{Classes};
 ghost use Rattle.filling.specs.Filling.{ReadingFits, TablesFilled};
 ghost use Rattle.noted_fill.specs.HeaderNoted.{HeaderNoted};
 
@@ -13,7 +12,6 @@ use records::{LINK_SLOTS, PARAM_SLOTS};
 
 // Copies the notes if they are whole. The records of a header with more links or parameters than that are written by the second pass.
 pub fn fill(
-    classes: &[u8; 256],
     edition: Edition,
     s: &[u8],
     counts: Counts,
@@ -22,7 +20,7 @@ pub fn fill(
     links: &mut [usize],
     params: &mut [usize],
 )
-    requires reading_fits { ReadingFits (further edition) s.now links.old params.old × Classes classes.now }
+    requires reading_fits { ReadingFits (further edition) s.now links.old params.old }
     requires header_noted { HeaderNoted (further edition) s.now counts link_notes.now param_notes.now × (length s.now < 65536) }
     ensures { TablesFilled (further edition) s.now
         links.old links.new params.old params.new }
@@ -34,5 +32,5 @@ pub fn fill(
             return;
         }
     }
-    filling::fill(classes, edition, s, links, params)
+    filling::fill(edition, s, links, params)
 }

@@ -1,5 +1,5 @@
-// The sets of octets that the grammar names, tested by one table: a class number for each octet, with a bit for each set. A call makes the
-// table once and hands it down, since a constant that is read in a loop is built anew at each look.
+// The sets of octets that the grammar names, tested by one table: a class number for each octet, with a bit for each set. The table is a
+// static, since a constant that is read in a loop is built anew at each look.
 #![tactic(auto)]
 
 ghost use Rattle.std.specs.Prelude.{◌≡◌};
@@ -25,19 +25,20 @@ pub enum Set {
     Ptoken,
 }
 
-// The table, for a call to hand down.
-pub fn table() -> [u8; 256]
-    ensures { Classes result }
+static TABLE: [u8; 256] = CLASSES;
+
+// The table.
+pub fn table() -> &'static [u8; 256]
+    ensures { Classes result.now }
 {
-    CLASSES
+    &TABLE
 }
 
 // Whether the octet is in the set.
-pub fn is_in(classes: &[u8; 256], set: Set, c: u8) -> bool
-    requires { Classes classes.now }
+pub fn is_in(set: Set, c: u8) -> bool
     ensures { result ≡ is_in set c }
 {
-    let class = classes[c as usize];
+    let class = table()[c as usize];
     match set {
         Set::Token => class % 2 == 1,
         Set::Plain => class / 2 % 2 == 1,
@@ -51,12 +52,11 @@ pub fn is_in(classes: &[u8; 256], set: Set, c: u8) -> bool
 }
 
 // Whether a value without quotes may hold the octet though a token may not.
-pub fn is_further(classes: &[u8; 256], edition: Edition, c: u8) -> bool
-    requires { Classes classes.now }
+pub fn is_further(edition: Edition, c: u8) -> bool
     ensures { result ≡ further edition c }
 {
     match edition {
         Edition::Rfc8288 => false,
-        Edition::Rfc5988 => is_in(classes, Set::Older, c),
+        Edition::Rfc5988 => is_in(Set::Older, c),
     }
 }

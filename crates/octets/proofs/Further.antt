@@ -3,12 +3,11 @@ use Prim.Native.Nat.{ℕ}
 use native.Mathlib.Omega.{arith}
 use mathlib.Core.Bool.{Bool, true, false, not, false≢true}
 use mathlib.Core.Path.{◌≡◌, refl, sym, subst}
+use Rattle.std.specs.Prelude.{Option, Some, None}
 use Rattle.octets.specs.Sets.{is_token, is_letter, is_digit, is_plain, older_octets, is_older}
 use Rattle.octets.specs.Editions.{number_of, further, NoEdition, IsAsked}
 use Rattle.octets.specs.declared.editions.Edition.{Edition}
 use Rattle.octets.specs.declared.editions.Edition.TheVariants.{Rfc8288, Rfc5988}
-use Rattle.octets.specs.declared.editions.Asked.{Asked}
-use Rattle.octets.specs.declared.editions.Asked.TheVariants.{Known, Unknown}
 use Rattle.octets.proofs.Octets.{Octets, within, one_of_octets}
 
 -- a number other than 0 and 1 is no edition's
@@ -47,8 +46,8 @@ no_backslash Rfc8288 = refl
 no_backslash Rfc5988 = refl
 
 -- what a number was told to ask for
-pub asked_known : {n : ℕ} {r : Asked} {e : Edition} → IsAsked n r → r ≡ Known e → number_of e ≡ n
+pub asked_known : {n : ℕ} {r : Option Edition} {e : Edition} → IsAsked n r → r ≡ Some e → number_of e ≡ n
 asked_known {n} a q = subst (IsAsked n) q a
 
-pub asked_unknown : {n : ℕ} {r : Asked} → IsAsked n r → r ≡ Unknown → NoEdition n
+pub asked_unknown : {n : ℕ} {r : Option Edition} → IsAsked n r → r ≡ None → NoEdition n
 asked_unknown {n} a q = subst (IsAsked n) q a

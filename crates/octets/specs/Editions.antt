@@ -1,10 +1,8 @@
 -- The editions of the grammar: their numbers, and the octets in which they differ.
-use Rattle.std.specs.Prelude.{ℕ, ◌≡◌, Bool, false}
+use Rattle.std.specs.Prelude.{ℕ, ◌≡◌, Bool, false, Option, Some, None}
 use Rattle.octets.specs.Sets.{is_older}
 use Rattle.octets.specs.declared.editions.Edition.{Edition}
 use Rattle.octets.specs.declared.editions.Edition.TheVariants.{Rfc8288, Rfc5988}
-use Rattle.octets.specs.declared.editions.Asked.{Asked}
-use Rattle.octets.specs.declared.editions.Asked.TheVariants.{Known, Unknown}
 
 -- 0 is RFC 8288's edition and 1 the older one
 abbrev pub number_of : Edition → ℕ
@@ -21,6 +19,6 @@ abbrev pub NoEdition : ℕ → Type 0
 NoEdition n = (e : Edition) → number_of e ≡ n → ⊥
 
 -- what the number n asks for
-abbrev pub IsAsked : ℕ → Asked → Type 0
-IsAsked n (Known e) = number_of e ≡ n
-IsAsked n Unknown = NoEdition n
+abbrev pub IsAsked : ℕ → Option Edition → Type 0
+IsAsked n (Some e) = number_of e ≡ n
+IsAsked n None = NoEdition n

@@ -13,20 +13,13 @@ pub enum Edition {
     Rfc5988,
 }
 
-// What a number asks for.
-#[derive(Clone, Copy)]
-pub enum Asked {
-    Known(Edition),
-    Unknown,
-}
-
 // The edition of this number, if there is one. No other place makes an edition of a number.
-pub fn edition_of(number: usize) -> Asked
+pub fn edition_of(number: usize) -> Option<Edition>
     ensures { IsAsked number result }
 {
     match number {
-        RFC8288 => Asked::Known(Edition::Rfc8288),
-        RFC5988 => Asked::Known(Edition::Rfc5988),
-        _ => Asked::Unknown,
+        RFC8288 => Some(Edition::Rfc8288),
+        RFC5988 => Some(Edition::Rfc5988),
+        _ => None,
     }
 }

@@ -16,7 +16,7 @@ use Rattle.catalogues.specs.Outcome.{step_limit}
 use Rattle.paces.specs.Paces.{relation_on, IsPaces, far, go}
 use Rattle.paces.specs.declared.Way.{Way}
 use Rattle.paces.specs.declared.Way.TheVariants.{Next, Prev}
-use Rattle.paces.specs.declared.Paces.TheVariants.{Go, Far}
+use Rattle.std.specs.Prelude.{Some, None}
 
 -- n is near enough, and going the way w it asks for z steps
 pub record Told (w : Way) (n z : ℤ) : Type 0 where
@@ -49,10 +49,10 @@ positive (negsuc k) l e = absurd (true≢false e)
 -- ---- as n is read from its bits
 
 module _ {n : ℤ} (f : SFits w32 n) where
-  pub far_below : lt_z (to_z w32 (of_z w32 n)) (negsuc 63) ≡ true → IsPaces n Far
+  pub far_below : lt_z (to_z w32 (of_z w32 n)) (negsuc 63) ≡ true → IsPaces n None
   far_below e = far (below n (rw (to_z-of_z w32 n f) at e))
 
-  pub far_above : lt_z (pos 64) (to_z w32 (of_z w32 n)) ≡ true → IsPaces n Far
+  pub far_above : lt_z (pos 64) (to_z w32 (of_z w32 n)) ≡ true → IsPaces n None
   far_above e = far (above n (rw (to_z-of_z w32 n f) at e))
 
   module _ (b : lt_z (to_z w32 (of_z w32 n)) (negsuc 63) ≡ false) (a : lt_z (pos 64) (to_z w32 (of_z w32 n)) ≡ false) where
@@ -74,5 +74,5 @@ module _ {w : Way} {n z : ℤ} (t : Told w n z) where
   pub steps_cast : T (non_neg (to_z w32 (of_z w32 z))) × Fits w64 (nat_abs (to_z w32 (of_z w32 z)))
   steps_cast = rw (to_z-of_z w32 z steps_fit, t.count) (tt, record { fits = omega (arith, t.near) })
 
-  pub goes : IsPaces n (Go w (nat_abs (to_z w32 (of_z w32 z))))
+  pub goes : IsPaces n (Some (record { way = w; steps = nat_abs (to_z w32 (of_z w32 z)) }))
   goes = go t.near t.relation (sym (ap nat_abs (to_z-of_z w32 z steps_fit ∙ t.count)))

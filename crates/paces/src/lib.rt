@@ -10,28 +10,35 @@ pub enum Way {
     Prev,
 }
 
-// So many steps that way, or more than there may be.
+// So many steps that way.
 #[derive(Clone, Copy)]
-pub enum Paces {
-    Go(Way, usize),
-    Far,
+pub struct Paces {
+    pub way: Way,
+    pub steps: usize,
 }
 
 // The most steps either way.
 const MOST: i32 = 64;
 
-// Nothing is negated before it is known to lie in range: the smallest number has no opposite.
-pub fn paces_of(n: i32) -> Paces
+// The steps that a number asks for, or none if they are more than there may be. Nothing is negated before it is known to lie in range: the
+// smallest number has no opposite.
+pub fn paces_of(n: i32) -> Option<Paces>
     ensures { IsPaces n result }
 {
     if n < -MOST {
-        return Paces::Far;
+        return None;
     }
     if n > MOST {
-        return Paces::Far;
+        return None;
     }
     if n < 0 {
-        return Paces::Go(Way::Prev, (-n) as usize);
+        return Some(Paces {
+            way: Way::Prev,
+            steps: (-n) as usize,
+        });
     }
-    Paces::Go(Way::Next, n as usize)
+    Some(Paces {
+        way: Way::Next,
+        steps: n as usize,
+    })
 }

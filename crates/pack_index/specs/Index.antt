@@ -1,10 +1,9 @@
 -- An index of packs, and what is found in it.
-use Rattle.std.specs.Prelude.{ℕ, ◌+◌, ◌*◌, ◌≤◌, ◌<◌, ◌≡◌, true, false, List, [], ◌∷◌, length, get_or}
+use Rattle.std.specs.Prelude.{ℕ, ◌+◌, ◌*◌, ◌≤◌, ◌<◌, ◌≡◌, true, false, List, [], ◌∷◌, length, get_or, Option, Some, None}
 use Rattle.std.proofs.Math.Seq.{slice}
 use Rattle.octets.specs.Fold.{same}
 use Rattle.pack_index.specs.declared.PackPlaces.{PackPlaces}
-use Rattle.pack_index.specs.declared.PackFound.{PackFound}
-use Rattle.pack_index.specs.declared.PackFound.TheVariants.{At, Nowhere}
+use Rattle.kinds.specs.declared.PackNumber.{PackNumber}
 
 -- the places that the index has for pack number i
 abbrev pub places_at : List ℕ → ℕ → PackPlaces
@@ -40,8 +39,8 @@ pub record Held (s X : List ℕ) (n : ℕ) : Type 0 where
   pub room : 3 * n ≤ length X
   pub placed : (i : ℕ) → i < n → Placed s (places_at X i)
 
--- of n packs, r is the first that has the URI w
-abbrev pub FoundBy : List ℕ → List ℕ → ℕ → List ℕ → PackFound → Type 0
-FoundBy s X n w (At k) =
+-- of n packs, r is the first that has the URI w, or none of them has it
+abbrev pub FoundBy : List ℕ → List ℕ → ℕ → List ℕ → Option PackNumber → Type 0
+FoundBy s X n w (Some k) =
     (k.0 < n) × (same (uri_in s (places_at X k.0)) w ≡ true) × ((j : ℕ) → j < k.0 → same (uri_in s (places_at X j)) w ≡ false)
-FoundBy s X n w Nowhere = (j : ℕ) → j < n → same (uri_in s (places_at X j)) w ≡ false
+FoundBy s X n w None = (j : ℕ) → j < n → same (uri_in s (places_at X j)) w ≡ false

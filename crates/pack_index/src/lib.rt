@@ -42,7 +42,8 @@ pub fn put_places(index: &mut [usize], number: PackNumber, places: PackPlaces)
     index[at + 2] = places.end.0;
 }
 
-// Whether 16 octets from `at` on are the same in both. No test branches, so that it becomes vector code.
+// Whether 16 octets from `at` on are the same in both. No test branches, so that it becomes vector code. It compares two texts, and so is
+// no twin of what `blocks` asks of one.
 fn is_same_block(u: &[u8], v: &[u8], at: usize) -> bool
     requires { (at + 16 ≤ length u.now) × (at + 16 ≤ length v.now) }
     ensures { result ≡ true → SameBlock u.now v.now at 16 }
@@ -63,39 +64,31 @@ fn are_same(u: &[u8], v: &[u8]) -> bool
         return false;
     }
     let mut i = u.len();
+    // A range tells no block of 16 that still fits, so this loop counts by itself.
     while 16 <= i && is_same_block(u, v, i - 16) {
         i -= 16;
     }
-    while 0 < i {
-        i -= 1;
-        if u[i] != v[i] {
+    for k in (0..i).rev() {
+        if u[k] != v[k] {
             return false;
         }
     }
     true
 }
 
-// The first pack that has a URI, or none.
-#[derive(Clone, Copy)]
-pub enum PackFound {
-    At(PackNumber),
-    Nowhere,
-}
-
-// The first of so many packs whose URI is these octets.
-pub fn find(text: &[u8], index: &[usize], count: usize, uri: &[u8]) -> PackFound
+// The first of so many packs whose URI is these octets, or none.
+pub fn find(text: &[u8], index: &[usize], count: usize, uri: &[u8]) -> Option<PackNumber>
     requires { Held text.now index.now count }
     ensures { FoundBy text.now index.now count uri.now result }
 {
-    let mut i = 0;
-    while i < count {
-        let places = places_at(index, PackNumber(i));
+    for i in 0..count {
+        let number = PackNumber(i);
+        let places = places_at(index, number);
         let from = places.from.0;
         let tab = places.tab.0;
         if are_same(&text[from..tab], uri) {
-            return PackFound::At(PackNumber(i));
+            return Some(number);
         }
-        i += 1;
     }
-    PackFound::Nowhere
+    None
 }

@@ -21,7 +21,7 @@ use Rattle.cursor.specs.Passed.{Passed}
 use Rattle.pack_index.specs.declared.PackPlaces.{PackPlaces}
 use Rattle.pack_index.specs.Index.{Placed, uri_in, value_in}
 use Rattle.pack_lines.specs.Lines.{in_uri, in_value, IsLine, LineRead, line, none as no_line}
-use Rattle.pack_lines.specs.declared.LineFound.TheVariants.{At, Nowhere}
+use Rattle.std.specs.Prelude.{Some, None}
 use Rattle.pack_lines.proofs.Cutting.{Outside, two_parts, passed_free, cut_front, cut_behind, first_left}
 
 uri_outside : Outside (9 ∷ 10 ∷ 35 ∷ []) in_uri
@@ -96,13 +96,13 @@ module _ {s : List ℕ} {a t : ℕ} (p : Passed in_uri s a t) where
         first_left s t 9
         (cut_behind uri_outside p u (9 ∷ (v ++ (10 ∷ x))) (clear_free (9 ∷ 10 ∷ 35 ∷ []) absolute_uri refl u l.uri) refl l.whole)
 
-  pub ends_early : length s ≤ t → LineRead s a Nowhere
+  pub ends_early : length s ≤ t → LineRead s a None
   ends_early h = no_line (λ u v x l. omega (arith, h, (left_here l).0))
 
-  pub no_tab : (get_or s t 0 ≡ 9 → ⊥) → LineRead s a Nowhere
+  pub no_tab : (get_or s t 0 ≡ 9 → ⊥) → LineRead s a None
   no_tab n = no_line (λ u v x l. n (left_here l).1)
 
-  pub no_uri : (IsURI (take (t - a) (drop a s)) → ⊥) → LineRead s a Nowhere
+  pub no_uri : (IsURI (take (t - a) (drop a s)) → ⊥) → LineRead s a None
   no_uri n =
       no_line
       (λ u v x l. n
@@ -115,11 +115,11 @@ module _ {s : List ℕ} {a t : ℕ} (p : Passed in_uri s a t) where
         (first_left s e 10
         (cut_behind value_outside q v (10 ∷ x) l.value refl (ap (λ (k : ℕ). drop k s) (add-one t) ∙ (left_here l).2))).0
 
-    pub no_end : length s ≤ e → LineRead s a Nowhere
+    pub no_end : length s ≤ e → LineRead s a None
     no_end h = no_line (λ u v x l. omega (arith, h, value_behind l))
 
     module _ (tab : get_or s t 0 ≡ 9) (inside : e < length s) (uri : IsURI (take (t - a) (drop a s))) where
-      pub told : LineRead s a (At (record { from = record { 0 = a }; tab = record { 0 = t }; end = record { 0 = e } }))
+      pub told : LineRead s a (Some (record { from = record { 0 = a }; tab = record { 0 = t }; end = record { 0 = e } }))
       told =
           line {p = record { from = record { 0 = a }; tab = record { 0 = t }; end = record { 0 = e } }} refl
           (record { uri = p.forward; value = omega (arith, q.forward); inside = inside })

@@ -15,8 +15,7 @@ use Rattle.catalogues.proofs.Lines.{uri_no_tab, laid, line_parts}
 use Rattle.pack_index.specs.Index.{Placed, uri_in, value_in}
 use Rattle.pack_index.specs.declared.PackPlaces.{PackPlaces}
 use Rattle.pack_lines.specs.Lines.{IsLine, LineRead, line, none}
-use Rattle.pack_lines.specs.declared.LineFound.{LineFound}
-use Rattle.pack_lines.specs.declared.LineFound.TheVariants.{At, Nowhere}
+use Rattle.std.specs.Prelude.{Option, Some, None}
 use Rattle.pack_uri.specs.Uri.{UriPart}
 
 -- the lines of some right packs are all that stands from place a on, and p is number k of these packs
@@ -34,18 +33,18 @@ record LineAt (s : List ℕ) (a : ℕ) (l : PackPlaces) : Type 0 where
   placed : Placed s l
   is : IsLine (drop a s) (uri_in s l) (value_in s l) (drop (suc l.end.0) s)
 
-module _ {s : List ℕ} {a : ℕ} {r : LineFound} (h : LineRead s a r) where
-  line_told : {l : PackPlaces} → r ≡ At l → LineAt s a l
+module _ {s : List ℕ} {a : ℕ} {r : Option PackPlaces} (h : LineRead s a r) where
+  line_told : {l : PackPlaces} → r ≡ Some l → LineAt s a l
   line_told {l} e = go (subst (LineRead s a) e h)
     where
-      go : LineRead s a (At l) → LineAt s a l
+      go : LineRead s a (Some l) → LineAt s a l
       go (line f p i) = record { from = f; placed = p; is = i }
 
   -- no pack stands there
-  none_told : r ≡ Nowhere → {k : ℕ} {p : Pack} → StandsFrom s a k p → ⊥
+  none_told : r ≡ None → {k : ℕ} {p : Pack} → StandsFrom s a k p → ⊥
   none_told e {k} {p} t = go (subst (LineRead s a) e h) t.packs t.right t.lines t.number
     where
-      go : LineRead s a Nowhere → (ps : List Pack) → Each (RightPack t.room) ps → drop a s ≡ lines_of ps → pack_at ps k ≡ some p → ⊥
+      go : LineRead s a None → (ps : List Pack) → Each (RightPack t.room) ps → drop a s ≡ lines_of ps → pack_at ps k ≡ some p → ⊥
       go (none f) [] each_none w n = let z : ◌≡◌ {A = ℕ} 0 1 = cc in omega arith
       go (none f) (q ∷ qs) (each_more c cs) w n =
           f q.uri q.value (lines_of qs)
@@ -121,11 +120,11 @@ module _ {s : List ℕ} {n k a : ℕ} (g : SoFar s n k a) where
   pub at_its_end : length s ≤ a → UriPart s n 0 0
   at_its_end h = nothing (λ p. none_left h)
 
-  module _ {r : LineFound} (h : LineRead s a r) where
-    pub no_line : r ≡ Nowhere → UriPart s n 0 0
+  module _ {r : Option PackPlaces} (h : LineRead s a r) where
+    pub no_line : r ≡ None → UriPart s n 0 0
     no_line e = nothing (λ p. none_told h e)
 
-    module _ {l : PackPlaces} (e : r ≡ At l) where
+    module _ {l : PackPlaces} (e : r ≡ Some l) where
       pub forward : (a < suc l.end.0) × (l.end.0 < length s)
       forward =
           let t = line_told h e in

@@ -4,13 +4,12 @@
 ghost use Rattle.pack_uri.specs.Uri.{UriPart};
 
 use kinds::{PackNumber, Place, Span};
-use pack_lines::{LineFound, line_at};
+use pack_lines::line_at;
 
 // Goes from line to line up to that of the pack. If there is none, the part is empty.
 pub fn uri_of(s: &[u8], number: PackNumber) -> Span
     ensures { UriPart s.now number.0 result.from.0 result.to.0 }
 {
-    let classes = octet_classes::table();
     let nothing = Span {
         from: Place(0),
         to: Place(0),
@@ -18,19 +17,17 @@ pub fn uri_of(s: &[u8], number: PackNumber) -> Span
     let mut left = number.0;
     let mut at = 0;
     while at < s.len() {
-        let found = line_at(&classes, s, Place(at));
-        match found {
-            LineFound::Nowhere => return nothing,
-            LineFound::At(p) => {
-                if left == 0 {
-                    let from = p.from;
-                    let to = p.tab;
-                    return Span { from, to };
-                }
-                left -= 1;
-                at = p.end.0 + 1;
-            }
+        let Some(p) = line_at(s, Place(at)) else {
+            return nothing;
+        };
+        if left == 0 {
+            return Span {
+                from: p.from,
+                to: p.tab,
+            };
         }
+        left -= 1;
+        at = p.end.0 + 1;
     }
     nothing
 }

@@ -11,14 +11,13 @@ use Rattle.catalogues.specs.Walks.{Ended, ended_at, one_more_step, going_on, wal
 use Rattle.catalogues.specs.Outcome.{WalkOut, end_number, walked}
 use Rattle.catalogues.proofs.StepEnds.{Taken, taken, step_taken}
 use Rattle.answers.specs.Walk.{end_of, walk_numbers}
+use Rattle.answers.specs.declared.Refusal.{Refusal}
 use Rattle.answers.specs.declared.walk_answer.End.{End}
 use Rattle.answers.specs.declared.walk_answer.End.TheVariants.{Arrived, NoLink, NoTarget, NoPack}
-use Rattle.answers.specs.declared.walk_answer.WalkAnswer.{WalkAnswer}
-use Rattle.answers.specs.declared.walk_answer.WalkAnswer.TheVariants as answer
+use Rattle.answers.specs.declared.walk_answer.Ended as answer
 use Rattle.target_steps.specs.Stepped.{the_end, step_out}
 use Rattle.stepping.specs.Known.{Known, KnownPacks, StepsFrom}
-use Rattle.target_steps.specs.declared.Stepped.{Stepped}
-use Rattle.target_steps.specs.declared.Stepped.TheVariants.{To, Stop}
+use Rattle.std.specs.Prelude.{Result, Ok, Err}
 use Rattle.pack_walk.specs.Walked.{walk_out, behind, WalksOn, WalksFrom}
 
 -- the numbers of the ends
@@ -40,28 +39,28 @@ taken_below : {ps : List Pack} {j : ℕ} → Taken ps (to j) → j < length ps
 taken_below (taken h) = h
 
 module _ (s X : List ℕ) (m l p : ℕ) (q : List ℕ) (i : PackNumber) (k : ℕ) where
-  pub no_steps : {n : ℕ} → n ≡ 0 → WalksOn s X m l p q n i.0 k (answer.Ended Arrived i k)
+  pub no_steps : {n : ℕ} → n ≡ 0 → WalksOn s X m l p q n i.0 k (Ok (record { end = Arrived; pack = i; steps = k }))
   unfolding walk
   no_steps {n} z ps known =
       ended Arrived i.0 k ∙ ap (λ (j : ℕ). walked (behind k (walk ps q j i.0))) (sym z)
 
   -- the step that is answered
-  module _ (r : Stepped) (f : StepsFrom s X m l p q i.0 r) where
-    stepped : {x : Stepped} → r ≡ x → (ps : List Pack) → Known s X m l p ps → step_from ps q i.0 ≡ step_out x
+  module _ (r : Result PackNumber End) (f : StepsFrom s X m l p q i.0 r) where
+    stepped : {x : Result PackNumber End} → r ≡ x → (ps : List Pack) → Known s X m l p ps → step_from ps q i.0 ≡ step_out x
     stepped e ps known = f ps known ∙ ap step_out e
 
-    pub stops : (n : ℕ) → (n ≡ 0 → ⊥) → {e : End} → r ≡ Stop e → WalksOn s X m l p q n i.0 k (answer.Ended e i k)
+    pub stops : (n : ℕ) → (n ≡ 0 → ⊥) → {e : End} → r ≡ Err e → WalksOn s X m l p q n i.0 k (Ok (record { end = e; pack = i; steps = k }))
     unfolding walk
     stops zero nz y ps known = absurd (nz refl)
     stops (suc n) nz {e} y ps known =
         ended e i.0 k
         ∙ ap (λ (x : Step). walked (behind k (going_on i.0 x (λ (j : ℕ). walk ps q n j)))) (sym (stepped y ps known))
 
-    pub next_below : KnownPacks s X m l p → {j : PackNumber} → r ≡ To j → j.0 < m
+    pub next_below : KnownPacks s X m l p → {j : PackNumber} → r ≡ Ok j → j.0 < m
     next_below (ps, known) {j} y =
         omega (arith, taken_below (subst (Taken ps) (stepped y ps known) (step_taken ps q i.0)), known.listed.count)
 
-    pub goes : (n : ℕ) → (n ≡ 0 → ⊥) → {j : PackNumber} → r ≡ To j → (a : WalkAnswer) → WalksOn s X m l p q (n - 1) j.0 (k + 1) a
+    pub goes : (n : ℕ) → (n ≡ 0 → ⊥) → {j : PackNumber} → r ≡ Ok j → (a : Result answer.Ended Refusal) → WalksOn s X m l p q (n - 1) j.0 (k + 1) a
         → WalksOn s X m l p q n i.0 k a
     unfolding walk
     goes zero nz y a w ps known = absurd (nz refl)
@@ -80,10 +79,10 @@ module _ {s X : List ℕ} {m l p l' p' : ℕ} (e : l' ≡ l) (f : p' ≡ p) wher
   pub known_alike : KnownPacks s X m l p → KnownPacks s X m l' p'
   known_alike k = subst (KnownPacks s X m l') (sym f) (subst (λ (j : ℕ). KnownPacks s X m j p) (sym e) k)
 
-  pub walks_alike : (q : List ℕ) (n i k : ℕ) (a : WalkAnswer) → WalksOn s X m l' p' q n i k a → WalksOn s X m l p q n i k a
+  pub walks_alike : (q : List ℕ) (n i k : ℕ) (a : Result answer.Ended Refusal) → WalksOn s X m l' p' q n i k a → WalksOn s X m l p q n i k a
   walks_alike q n i k a w =
       subst (λ (j : ℕ). WalksOn s X m l j q n i k a) f (subst (λ (j : ℕ). WalksOn s X m j p' q n i k a) e w)
 
-  pub from_alike : {w : ℕ} {q : List ℕ} {n i : ℕ} {a : WalkAnswer} → WalksFrom s X m l' p' w q n i a → WalksFrom s X m l p w q n i a
+  pub from_alike : {w : ℕ} {q : List ℕ} {n i : ℕ} {a : Result answer.Ended Refusal} → WalksFrom s X m l' p' w q n i a → WalksFrom s X m l p w q n i a
   from_alike {w} {q} {n} {i} {a} h =
       subst (λ (j : ℕ). WalksFrom s X m l j w q n i a) f (subst (λ (j : ℕ). WalksFrom s X m j p' w q n i a) e h)

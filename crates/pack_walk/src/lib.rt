@@ -8,14 +8,13 @@ ghost use Rattle.paces.specs.Paces.{relation_on};
 ghost use Rattle.stepping.specs.Known.{KnownPacks};
 ghost use Rattle.pack_walk.specs.Walked.{WalksOn, WalksFrom};
 
-use answers::walk_answer::{End, WalkAnswer};
+use answers::walk_answer::{End, Ended, WalkAnswer};
 use answers::{LIMIT, Refusal};
 use kinds::PackNumber;
 use paces::Way;
 use stepping::step;
-use target_steps::Stepped;
 
-// Walks on from a pack, behind the steps taken so far. Each step taken leaves one step fewer to take.
+// Walks on from a pack, behind so many steps taken, with so many left to take. Each step taken leaves one step fewer.
 fn walk_on(
     s: &[u8],
     index: &[usize],
@@ -23,30 +22,31 @@ fn walk_on(
     pack: PackNumber,
     way: Way,
     left: usize,
-    taken: usize,
+    steps: usize,
     links: &mut [usize],
     params: &mut [usize],
     work: &mut [u8],
 ) -> WalkAnswer
     requires { KnownPacks s.now index.now count (length links.old) (length params.old) × (pack.0 < count)
-        × (limit ≤ length work.old) × (taken + left ≤ step_limit) }
+        × (limit ≤ length work.old) × (steps + left ≤ step_limit) }
     ensures { WalksOn s.now index.now count (length links.old) (length params.old) (relation_on way)
-        left pack.0 taken result }
+        left pack.0 steps result }
 {
     if left == 0 {
-        return WalkAnswer::Ended(End::Arrived, pack, taken);
+        let end = End::Arrived;
+        return Ok(Ended { end, pack, steps });
     }
     let stepped = step(s, index, count, pack, way, links, params, work);
     match stepped {
-        Stepped::Stop(why) => WalkAnswer::Ended(why, pack, taken),
-        Stepped::To(next) => walk_on(
+        Err(end) => Ok(Ended { end, pack, steps }),
+        Ok(next) => walk_on(
             s,
             index,
             count,
             next,
             way,
             left - 1,
-            taken + 1,
+            steps + 1,
             links,
             params,
             work,
@@ -71,10 +71,10 @@ pub fn walk_from(
         (length work.old) (relation_on way) steps start.0 result }
 {
     if start.0 >= count {
-        return WalkAnswer::Refused(Refusal::NoSuchLink);
+        return Err(Refusal::NoSuchLink);
     }
     if work.len() < LIMIT {
-        return WalkAnswer::Refused(Refusal::NoOutputRoom);
+        return Err(Refusal::NoOutputRoom);
     }
     walk_on(s, index, count, start, way, steps, 0, links, params, work)
 }

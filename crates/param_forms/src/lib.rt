@@ -12,7 +12,6 @@ ghost use Rattle.tables.specs.Written.{written_value};
 ghost use Rattle.values.specs.Rest.{rest};
 ghost use Rattle.shape.specs.Shape.{in_quotes};
 ghost use Rattle.shape.specs.Forms.{param_form, params_left, GoodRun};
-ghost use Rattle.octet_classes.specs.Classes.{Classes};
 
 use kinds::{OutPlace, ParamNumber, Span};
 use putting::escaped::put_escaped;
@@ -35,46 +34,31 @@ fn put_in_quotes(s: &[u8], part: Span, out: &mut [u8], at: OutPlace) -> OutPlace
 }
 
 // A parameter's value, bare or in quotes.
-fn put_value(
-    classes: &[u8; 256],
-    text: &[u8],
-    p: ParamParts,
-    out: &mut [u8],
-    at: OutPlace,
-) -> OutPlace
+fn put_value(text: &[u8], p: ParamParts, out: &mut [u8], at: OutPlace) -> OutPlace
     requires good_param { GoodParam (further Rfc5988) text.now (to_param p) }
     requires p_in_bounds { at.0 + length (written_value (value_of text.now (to_param p))) ≤ length out.old }
-    requires classes { Classes classes.now }
     ensures { Put out.old out.new at.0 result.0 (written_value (value_of text.now (to_param p))) }
 {
-    if is_bare(classes, text, p) {
+    if is_bare(text, p) {
         return copy_meaning(text, p.value, out, at);
     }
     put_in_quotes(text, p.value, out, at)
 }
 
 // One parameter: `;`, space, folded name, `=`, value.
-fn put_param(
-    classes: &[u8; 256],
-    text: &[u8],
-    p: ParamParts,
-    out: &mut [u8],
-    at: OutPlace,
-) -> OutPlace
+fn put_param(text: &[u8], p: ParamParts, out: &mut [u8], at: OutPlace) -> OutPlace
     requires good_param { GoodParam (further Rfc5988) text.now (to_param p) }
     requires p_in_bounds { at.0 + length (param_form text.now (to_param p)) ≤ length out.old }
-    requires classes { Classes classes.now }
     ensures { Put out.old out.new at.0 result.0 (param_form text.now (to_param p)) }
 {
     let name = put_two(out, at, b';', b' ');
     let equals = put_folded(text, p.name, out, name);
     let value = put(out, equals, b'=');
-    put_value(classes, text, p, out, value)
+    put_value(text, p, out, value)
 }
 
 // The parameters from number `first` up to `end`.
 pub fn put_params(
-    classes: &[u8; 256],
     text: &[u8],
     params: &[usize],
     first: ParamNumber,
@@ -84,16 +68,13 @@ pub fn put_params(
 ) -> OutPlace
     requires good_run { GoodRun text.now params.now first.0 end.0 }
     requires first_in_bounds { at.0 + length (params_left text.now params.now end.0 first.0) ≤ length out.old }
-    requires classes { Classes classes.now }
     ensures { Put out.old out.new at.0 result.0
         (params_left text.now params.now end.0 first.0) }
 {
     let mut to = at;
-    let mut p = first;
-    while p.0 < end.0 {
-        let param = records::parts_at(params, p);
-        to = put_param(classes, text, param, out, to);
-        p = p.next();
+    for p in first.0..end.0 {
+        let param = records::parts_at(params, ParamNumber(p));
+        to = put_param(text, param, out, to);
     }
     to
 }

@@ -4,7 +4,6 @@
 ghost use Rattle.std.specs.Prelude.{◌+◌, ◌<◌, ◌^◌, length};
 ghost use Rattle.octets.specs.Editions.{further};
 ghost use Rattle.phases.specs.Spots.{normal};
-ghost use Rattle.octet_classes.specs.Classes.{Classes};
 ghost use Rattle.part_scan.specs.Moved.{PartScanned};
 
 use crate::go_on::{Move, go_on};
@@ -18,6 +17,7 @@ mod outside;
 
 // The spot behind the part, the place in it of the first octet that leads nowhere, or the start of a target that is closed in it and is
 // no reference: its place in the header, which may lie before the part.
+// A `Result` with an enum of the two faults would be no plainer: nothing passes a fault on by `?`, and whoever calls takes the three apart.
 #[derive(Clone, Copy)]
 pub enum PartScan {
     Through(Spot),
@@ -26,20 +26,14 @@ pub enum PartScan {
 }
 
 // A part before which `base` octets of the header stand.
-pub fn scan_part(
-    classes: &[u8; 256],
-    edition: Edition,
-    part: &[u8],
-    base: usize,
-    from: Spot,
-) -> PartScan
-    requires { (base + length part.now < 2 ^ 64) × Classes classes.now }
+pub fn scan_part(edition: Edition, part: &[u8], base: usize, from: Spot) -> PartScan
+    requires { base + length part.now < 2 ^ 64 }
     ensures { PartScanned (further edition) part.now base (normal from) result }
 {
     let mut spot = normal(from);
     let mut c = Cursor::start();
     loop {
-        match go_on(classes, edition, part, base, spot, c) {
+        match go_on(edition, part, base, spot, c) {
             Move::End(last) => {
                 return PartScan::Through(last);
             }

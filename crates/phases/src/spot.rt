@@ -1,7 +1,6 @@
 // Where a reading stands between two octets.
 ghost use Rattle.std.specs.Prelude.{◌≡◌};
 ghost use Rattle.octets.specs.Editions.{further};
-ghost use Rattle.octet_classes.specs.Classes.{Classes};
 ghost use Rattle.phases.specs.Spots.{is_open, flat, normal, onward, behind_target};
 
 use crate::{AFTER, HEX, TARGET, on};
@@ -50,8 +49,7 @@ pub fn normal(spot: Spot) -> Spot
 }
 
 // In a target, whose octet leads to this phase.
-fn behind_target(classes: &[u8; 256], spot: Spot, phase: usize, c: u8) -> Spot
-    requires { Classes classes.now }
+fn behind_target(spot: Spot, phase: usize, c: u8) -> Spot
     ensures { result ≡ behind_target spot phase c }
 {
     let target = spot.target;
@@ -59,7 +57,7 @@ fn behind_target(classes: &[u8; 256], spot: Spot, phase: usize, c: u8) -> Spot
         return Spot {
             phase,
             target,
-            judged: next(classes, spot.judged, c),
+            judged: next(spot.judged, c),
         };
     }
     if accepts(spot.judged) {
@@ -73,13 +71,12 @@ fn behind_target(classes: &[u8; 256], spot: Spot, phase: usize, c: u8) -> Spot
 }
 
 // The spot behind the octet c, behind which the place `after` of the header is.
-pub fn onward(classes: &[u8; 256], edition: Edition, spot: Spot, after: Place, c: u8) -> Spot
-    requires { Classes classes.now }
+pub fn onward(edition: Edition, spot: Spot, after: Place, c: u8) -> Spot
     ensures { result ≡ onward (further edition) spot after.0 c }
 {
-    let phase = on(classes, edition, spot.phase, c);
+    let phase = on(edition, spot.phase, c);
     if is_open(spot.phase) {
-        return behind_target(classes, spot, phase, c);
+        return behind_target(spot, phase, c);
     }
     if phase == TARGET {
         return Spot {

@@ -5,7 +5,7 @@ ghost use Rattle.std.specs.Prelude.{◌+◌, ◌≤◌, [], ◌∷◌, ◌++◌,
 ghost use Rattle.kinds.specs.Put.{Put};
 ghost use Rattle.columns.specs.Decimal.{decimal};
 
-use kinds::{OutPlace, Place, Span};
+use kinds::{OutPlace, Span};
 use putting::part::put_part;
 use putting::put;
 
@@ -14,11 +14,7 @@ pub fn put_column(s: &[u8], end: u8, line: &mut [u8], at: OutPlace) -> OutPlace
     requires { at.0 + length s.now + 1 ≤ length line.old }
     ensures { Put line.old line.new at.0 result.0 (s.now ++ (end ∷ [])) }
 {
-    let whole = Span {
-        from: Place(0),
-        to: Place(s.len()),
-    };
-    let behind = put_part(s, whole, line, at);
+    let behind = put_part(s, Span::up_to(s.len()), line, at);
     put(line, behind, end)
 }
 

@@ -29,6 +29,7 @@ pub fn put_escaped(s: &[u8], part: Span, out: &mut [u8], at: OutPlace) -> OutPla
     let e = part.to;
     let mut to = at;
     let mut k = part.from;
+    // Steps by one octet or two, so a for loop doesn't fit.
     while k.0 < e.0 {
         let here = k.0;
         let mut p = k;

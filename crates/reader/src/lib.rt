@@ -6,7 +6,7 @@ ghost use Rattle.answers.specs.Read.{read_numbers, read_out};
 
 use answers::read_answer::ReadAnswer;
 use answers::{LIMIT, Refusal};
-use octets::editions::{Asked, Edition, edition_of};
+use octets::editions::{Edition, edition_of};
 use reading::read_noting;
 use records::{LINK_SLOTS, PARAM_SLOTS};
 
@@ -21,30 +21,30 @@ pub fn read_in(
     ensures { ReadIn edition header.now links.old params.old
         (read_out (read_numbers result) links.new params.new) }
 {
-    let classes = octet_classes::table();
     let n = header.len();
     if n > LIMIT {
-        return ReadAnswer::Refused(Refusal::TooLong);
+        return Err(Refusal::TooLong.into());
     }
+    // Four alike: tried with the sizes as const parameters of one function, whose proof that each array is lent whole didn't close.
     let any = (n % 65536) as u16;
     if n <= 128 {
         let mut ls = [any; 4 * LINK_SLOTS];
         let mut ps = [any; 8 * PARAM_SLOTS];
-        return read_noting(&classes, edition, header, &mut ls, &mut ps, links, params);
+        return read_noting(edition, header, &mut ls, &mut ps, links, params);
     }
     if n <= 512 {
         let mut ls = [any; 16 * LINK_SLOTS];
         let mut ps = [any; 32 * PARAM_SLOTS];
-        return read_noting(&classes, edition, header, &mut ls, &mut ps, links, params);
+        return read_noting(edition, header, &mut ls, &mut ps, links, params);
     }
     if n <= 1024 {
         let mut ls = [any; 24 * LINK_SLOTS];
         let mut ps = [any; 64 * PARAM_SLOTS];
-        return read_noting(&classes, edition, header, &mut ls, &mut ps, links, params);
+        return read_noting(edition, header, &mut ls, &mut ps, links, params);
     }
     let mut ls = [any; 160 * LINK_SLOTS];
     let mut ps = [any; 320 * PARAM_SLOTS];
-    read_noting(&classes, edition, header, &mut ls, &mut ps, links, params)
+    read_noting(edition, header, &mut ls, &mut ps, links, params)
 }
 
 // In the edition of this number, if there is one.
@@ -52,8 +52,6 @@ pub fn read(edition: usize, header: &[u8], links: &mut [usize], params: &mut [us
     ensures { Read edition header.now links.old params.old
         (read_out (read_numbers result) links.new params.new) }
 {
-    match edition_of(edition) {
-        Asked::Unknown => ReadAnswer::Refused(Refusal::UnknownEdition),
-        Asked::Known(known) => read_in(known, header, links, params),
-    }
+    let known = edition_of(edition).ok_or(Refusal::UnknownEdition)?;
+    read_in(known, header, links, params)
 }

@@ -3,20 +3,18 @@
 #![tactic(auto)]
 
 ghost use Rattle.std.specs.Prelude.{◌≤◌, length};
-ghost use Rattle.octet_classes.specs.Classes.{Classes};
 ghost use Rattle.outcomes.specs.Number.{limit};
 ghost use Rattle.outcomes.specs.Read.{ReadIn};
 ghost use Rattle.answers.specs.Read.{read_numbers, read_out};
 
 use answers::Refusal;
-use answers::read_answer::ReadAnswer;
+use answers::read_answer::{ReadAnswer, ReadError};
 use noted_fill::fill;
 use octets::editions::Edition;
-use scanner::HeaderScan;
+use scanner::header::scan;
 
 // In an edition that is known. What the notes hold afterwards is free.
 pub fn read_noting(
-    classes: &[u8; 256],
     edition: Edition,
     header: &[u8],
     link_notes: &mut [u16],
@@ -24,32 +22,30 @@ pub fn read_noting(
     links: &mut [usize],
     params: &mut [usize],
 ) -> ReadAnswer
-    requires { (length header.now ≤ limit) × Classes classes.now }
+    requires { length header.now ≤ limit }
     ensures { ReadIn edition header.now links.old params.old
         (read_out (read_numbers result) links.new params.new) }
 {
-    match scanner::header::scan(classes, edition, header, link_notes, param_notes) {
-        HeaderScan::Malformed(p) => ReadAnswer::Malformed(p),
-        HeaderScan::Counted(counts) => {
-            let link_room = records::link_room(links);
-            let param_room = records::param_room(params);
-            if link_room < counts.links {
-                return ReadAnswer::Refused(Refusal::NoLinkRoom);
-            }
-            if param_room < counts.params {
-                return ReadAnswer::Refused(Refusal::NoParamRoom);
-            }
-            fill(
-                classes,
-                edition,
-                header,
-                counts,
-                link_notes,
-                param_notes,
-                links,
-                params,
-            );
-            ReadAnswer::Done(counts)
-        }
+    let counts = match scan(edition, header, link_notes, param_notes) {
+        Err(place) => return Err(ReadError::Malformed(place)),
+        Ok(scanned) => scanned,
+    };
+    let link_room = records::link_room(links);
+    let param_room = records::param_room(params);
+    if link_room < counts.links {
+        return Err(Refusal::NoLinkRoom.into());
     }
+    if param_room < counts.params {
+        return Err(Refusal::NoParamRoom.into());
+    }
+    fill(
+        edition,
+        header,
+        counts,
+        link_notes,
+        param_notes,
+        links,
+        params,
+    );
+    Ok(counts)
 }

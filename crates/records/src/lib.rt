@@ -23,7 +23,8 @@ pub struct LinkRecord {
     pub count: usize,
 }
 
-// The parts of a parameter: where its name and its value stand, and the value's form.
+// The parts of a parameter: where its name and its value stand, and the value's form. The form is a number and no enum, and so is a code: a
+// table that C lends may hold any (`tables/specs/Good` says which are good).
 #[derive(Clone, Copy)]
 pub struct ParamParts {
     pub name: Span,

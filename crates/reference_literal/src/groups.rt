@@ -2,7 +2,6 @@
 ghost use Rattle.std.specs.Prelude.{◌≡◌, ◌≤◌, ◌<◌};
 ghost use Rattle.reference_steps.specs.Machine.{step, grouped, fits4, group_begins, group_goes_on, more_digits, group_ends, address_ends, in_group};
 ghost use Rattle.reference_sets.specs.Sets.{of};
-ghost use Rattle.octet_classes.specs.Classes.{Classes};
 ghost use Rattle.reference_literal.specs.Groups.{Grouped};
 
 use crate::numbers::number;
@@ -76,11 +75,11 @@ fn address_ends(z: usize, g: usize, d: usize, t: usize) -> usize
     pick((z == 1) | (g == 7), 12, NOWHERE)
 }
 
-fn group_at(classes: &[u8; 256], z: usize, g: usize, d: usize, t: usize, c: u8) -> usize
-    requires { Grouped z g d t × Classes classes.now }
+fn group_at(z: usize, g: usize, d: usize, t: usize, c: u8) -> usize
+    requires { Grouped z g d t }
     ensures { result ≡ in_group (of c) z g d t }
 {
-    if is_in(classes, Set::Hex, c) {
+    if is_in(Set::Hex, c) {
         return more_digits(z, g, d, t, c);
     }
     if c == b':' {
@@ -92,10 +91,10 @@ fn group_at(classes: &[u8; 256], z: usize, g: usize, d: usize, t: usize, c: u8) 
     pick((c == b'.') & (0 < d) & (0 < t), 66, NOWHERE)
 }
 
-pub fn in_group(classes: &[u8; 256], q: usize, c: u8) -> usize
-    requires { (100 ≤ q) × (q < 580) × Classes classes.now }
+pub fn in_group(q: usize, c: u8) -> usize
+    requires { (100 ≤ q) × (q < 580) }
     ensures { result ≡ step q c }
 {
     let p = q - 100;
-    group_at(classes, p / 240, p / 30 % 8, p / 6 % 5, p % 6, c)
+    group_at(p / 240, p / 30 % 8, p / 6 % 5, p % 6, c)
 }

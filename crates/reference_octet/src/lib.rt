@@ -4,7 +4,6 @@
 
 ghost use Rattle.std.specs.Prelude.{◌≡◌, ◌≤◌, ◌<◌};
 ghost use Rattle.reference_steps.specs.Machine.{step, accepts};
-ghost use Rattle.octet_classes.specs.Classes.{Classes};
 
 mod outer;
 
@@ -15,11 +14,11 @@ use reference_literal::literals::in_literal;
 use reference_sets::picking::{NOWHERE, pick};
 
 // Behind a `%`: its first hex digit leads 16 further, and its second one back.
-fn in_triple(classes: &[u8; 256], q: usize, c: u8) -> usize
-    requires { (16 ≤ q) × (q < 48) × Classes classes.now }
+fn in_triple(q: usize, c: u8) -> usize
+    requires { (16 ≤ q) × (q < 48) }
     ensures { result ≡ step q c }
 {
-    let hex = is_in(classes, Set::Hex, c);
+    let hex = is_in(Set::Hex, c);
     if q < 32 {
         return pick(hex, q + 16, NOWHERE);
     }
@@ -27,24 +26,23 @@ fn in_triple(classes: &[u8; 256], q: usize, c: u8) -> usize
 }
 
 // The state behind the octet c in the state q.
-pub fn next(classes: &[u8; 256], q: usize, c: u8) -> usize
-    requires { Classes classes.now }
+pub fn next(q: usize, c: u8) -> usize
     ensures { result ≡ step q c }
 {
     if q < 16 {
-        return outer::outer(classes, q, c);
+        return outer::outer(q, c);
     }
     if q < 48 {
-        return in_triple(classes, q, c);
+        return in_triple(q, c);
     }
     if q < 60 {
-        return in_literal(classes, q, c);
+        return in_literal(q, c);
     }
     if q < 100 {
         return in_dotted(q, c);
     }
     if q < 580 {
-        return in_group(classes, q, c);
+        return in_group(q, c);
     }
     NOWHERE
 }

@@ -2,7 +2,6 @@
 ghost use Rattle.std.specs.Prelude.{◌≡◌, ◌≤◌, ◌<◌};
 ghost use Rattle.reference_steps.specs.Machine.{step, behind_path, path_on, port_on, first_segment, in_path, in_authority, in_host};
 ghost use Rattle.reference_sets.specs.Sets.{of};
-ghost use Rattle.octet_classes.specs.Classes.{Classes};
 
 use reference_sets::picking::{NOWHERE, pick};
 use reference_sets::sets::{is_alpha, is_digit, is_path, is_plain, is_scheme};
@@ -26,35 +25,32 @@ fn port_on(c: u8) -> usize
     pick(c == b':', 11, path_on(c))
 }
 
-fn first_segment(classes: &[u8; 256], c: u8) -> usize
-    requires { Classes classes.now }
+fn first_segment(c: u8) -> usize
     ensures { result ≡ first_segment (of c) }
 {
     pick(
-        is_plain(classes, c) | (c == b'@'),
+        is_plain(c) | (c == b'@'),
         2,
         pick(c == b'%', 18, path_on(c)),
     )
 }
 
 // In a path or a query.
-fn in_path(classes: &[u8; 256], c: u8) -> usize
-    requires { Classes classes.now }
+fn in_path(c: u8) -> usize
     ensures { result ≡ in_path (of c) }
 {
     pick(
-        is_path(classes, c),
+        is_path(c),
         13,
         pick(c == b'%', 29, pick(c == b'#', 15, NOWHERE)),
     )
 }
 
-fn in_authority(classes: &[u8; 256], c: u8) -> usize
-    requires { Classes classes.now }
+fn in_authority(c: u8) -> usize
     ensures { result ≡ in_authority (of c) }
 {
     pick(
-        is_plain(classes, c),
+        is_plain(c),
         6,
         pick(
             c == b'%',
@@ -64,19 +60,17 @@ fn in_authority(classes: &[u8; 256], c: u8) -> usize
     )
 }
 
-fn in_host(classes: &[u8; 256], c: u8) -> usize
-    requires { Classes classes.now }
+fn in_host(c: u8) -> usize
     ensures { result ≡ in_host (of c) }
 {
-    pick(is_plain(classes, c), 10, pick(c == b'%', 26, port_on(c)))
+    pick(is_plain(c), 10, pick(c == b'%', 26, port_on(c)))
 }
 
-fn at_start(classes: &[u8; 256], c: u8) -> usize
-    requires { Classes classes.now }
+fn at_start(c: u8) -> usize
     ensures { result ≡ step 0 c }
 {
     let segment = pick(
-        is_plain(classes, c) | (c == b'@'),
+        is_plain(c) | (c == b'@'),
         2,
         pick(c == b'%', 18, pick(c == b'/', 4, behind_path(c))),
     );
@@ -84,98 +78,87 @@ fn at_start(classes: &[u8; 256], c: u8) -> usize
 }
 
 // Behind a colon and digits of an authority, and where it has become userinfo.
-fn in_port_or_user(classes: &[u8; 256], c: u8) -> usize
-    requires { Classes classes.now }
+fn in_port_or_user(c: u8) -> usize
     ensures { result ≡ step 7 c }
 {
     let behind = pick(c == b'%', 24, pick(c == b'@', 9, path_on(c)));
-    pick(
-        is_digit(c),
-        7,
-        pick(is_plain(classes, c) | (c == b':'), 8, behind),
-    )
+    pick(is_digit(c), 7, pick(is_plain(c) | (c == b':'), 8, behind))
 }
 
-fn in_user(classes: &[u8; 256], c: u8) -> usize
-    requires { Classes classes.now }
+fn in_user(c: u8) -> usize
     ensures { result ≡ step 8 c }
 {
     pick(
-        is_plain(classes, c) | (c == b':'),
+        is_plain(c) | (c == b':'),
         8,
         pick(c == b'%', 24, pick(c == b'@', 9, NOWHERE)),
     )
 }
 
-fn in_fragment(classes: &[u8; 256], c: u8) -> usize
-    requires { Classes classes.now }
+fn in_fragment(c: u8) -> usize
     ensures { result ≡ step 15 c }
 {
-    pick(is_path(classes, c), 15, pick(c == b'%', 31, NOWHERE))
+    pick(is_path(c), 15, pick(c == b'%', 31, NOWHERE))
 }
 
 // Up to the slashes before an authority.
-fn in_beginning(classes: &[u8; 256], q: usize, c: u8) -> usize
-    requires { (q < 5) × Classes classes.now }
+fn in_beginning(q: usize, c: u8) -> usize
+    requires { q < 5 }
     ensures { result ≡ step q c }
 {
     match q {
-        0 => at_start(classes, c),
-        1 => pick(
-            is_scheme(c),
-            1,
-            pick(c == b':', 3, first_segment(classes, c)),
-        ),
-        2 => first_segment(classes, c),
-        3 => pick(c == b'/', 4, in_path(classes, c)),
-        _ => pick(c == b'/', 5, in_path(classes, c)),
+        0 => at_start(c),
+        1 => pick(is_scheme(c), 1, pick(c == b':', 3, first_segment(c))),
+        2 => first_segment(c),
+        3 => pick(c == b'/', 4, in_path(c)),
+        _ => pick(c == b'/', 5, in_path(c)),
     }
 }
 
 // Where userinfo may still come, or has come.
-fn before_at(classes: &[u8; 256], q: usize, c: u8) -> usize
-    requires { (5 ≤ q) × (q < 9) × Classes classes.now }
+fn before_at(q: usize, c: u8) -> usize
+    requires { (5 ≤ q) × (q < 9) }
     ensures { result ≡ step q c }
 {
     match q {
-        5 => pick(c == b'[', 48, in_authority(classes, c)),
-        6 => in_authority(classes, c),
-        7 => in_port_or_user(classes, c),
-        _ => in_user(classes, c),
+        5 => pick(c == b'[', 48, in_authority(c)),
+        6 => in_authority(c),
+        7 => in_port_or_user(c),
+        _ => in_user(c),
     }
 }
 
-fn behind_at(classes: &[u8; 256], q: usize, c: u8) -> usize
-    requires { (9 ≤ q) × (q < 13) × Classes classes.now }
+fn behind_at(q: usize, c: u8) -> usize
+    requires { (9 ≤ q) × (q < 13) }
     ensures { result ≡ step q c }
 {
     match q {
-        9 => pick(c == b'[', 48, in_host(classes, c)),
-        10 => in_host(classes, c),
+        9 => pick(c == b'[', 48, in_host(c)),
+        10 => in_host(c),
         11 => pick(is_digit(c), 11, path_on(c)),
         _ => port_on(c),
     }
 }
 
 // Each of the states below 16; 14 is none.
-pub fn outer(classes: &[u8; 256], q: usize, c: u8) -> usize
-    requires { (q < 16) × Classes classes.now }
+pub fn outer(q: usize, c: u8) -> usize
+    requires { q < 16 }
     ensures { result ≡ step q c }
 {
     if q == 13 {
-        return in_path(classes, c);
+        return in_path(c);
     }
     if q < 5 {
-        return in_beginning(classes, q, c);
+        return in_beginning(q, c);
     }
     if q < 9 {
-        return before_at(classes, q, c);
+        return before_at(q, c);
     }
     if q < 13 {
-        return behind_at(classes, q, c);
+        return behind_at(q, c);
     }
     if q == 15 {
-        return in_fragment(classes, c);
+        return in_fragment(c);
     }
     NOWHERE
 }

@@ -15,7 +15,8 @@ fn is_common(c: u8) -> bool
     letter | ((b'&' <= c) & (c <= b';')) | other
 }
 
-// Whether all octets of a block are such.
+// Whether all octets of a block are such. Not by the crate `blocks`, whose test asks for one octet, a const parameter: a set's test would go
+// in as a closure, with a ghost function for what it tells, which is no plainer.
 pub fn all_common(s: &[u8], at: usize) -> bool
     requires { at + 16 ≤ length s.now }
     ensures { result ≡ all is_common (slice at (at + 16) s.now) }

@@ -5,7 +5,6 @@ ghost use Rattle.std.specs.Prelude.{◌≡◌, ◌≤◌, length};
 ghost use Rattle.std.proofs.Math.Seq.{slice};
 ghost use Rattle.reference_steps.specs.Machine.{run, accepts};
 ghost use Rattle.reference_sets.specs.Sets.{is_path};
-ghost use Rattle.octet_classes.specs.Classes.{Classes};
 ghost use Rattle.reference_scan.specs.Judges.{Judges};
 ghost use Rattle.reference_scan.specs.Passed.{Passed};
 
@@ -34,14 +33,14 @@ fn judged_up_to(i: usize, state: usize) -> Judged
 }
 
 // On in the state `state`, past all octets that the machine takes, up to the first that leads nowhere or the text's end.
-pub fn judge(classes: &[u8; 256], s: &[u8], from: Cursor, state: usize) -> Judged
-    requires { (from.at.0 ≤ length s.now) × Classes classes.now }
+pub fn judge(s: &[u8], from: Cursor, state: usize) -> Judged
+    requires { from.at.0 ≤ length s.now }
     ensures { Judges s.now from.at.0 state result }
 {
     let i = from.at.0;
-    let opened = opening::past_opening(classes, s, i, state);
+    let opened = opening::past_opening(s, i, state);
     let begun = opening::past_first_block(s, opened.at.at.0, opened.state);
-    walking::walk(classes, s, begun.at.at.0, begun.state)
+    walking::walk(s, begun.at.at.0, begun.state)
 }
 
 // Past whole blocks of octets of which most references are made, wherever in one they stand.
@@ -54,13 +53,13 @@ pub fn past_blocks(s: &[u8], from: Cursor) -> Cursor
 }
 
 // The state behind a part of the text.
-pub fn run_over(classes: &[u8; 256], s: &[u8], part: Span, state: usize) -> usize
-    requires { (part.from.0 ≤ part.to.0) × (part.to.0 ≤ length s.now) × Classes classes.now }
+pub fn run_over(s: &[u8], part: Span, state: usize) -> usize
+    requires { (part.from.0 ≤ part.to.0) × (part.to.0 ≤ length s.now) }
     ensures { result ≡ run state (slice part.from.0 part.to.0 s.now) }
 {
     let from = part.from;
     let to = part.to.0;
-    let j = judge(classes, &s[..to], Cursor { at: from }, state);
+    let j = judge(&s[..to], Cursor { at: from }, state);
     if j.at.at.0 < to {
         return NOWHERE;
     }
@@ -68,9 +67,9 @@ pub fn run_over(classes: &[u8; 256], s: &[u8], part: Span, state: usize) -> usiz
 }
 
 // Whether a part of the text is a reference.
-pub fn is_reference(classes: &[u8; 256], s: &[u8], part: Span) -> bool
-    requires { (part.from.0 ≤ part.to.0) × (part.to.0 ≤ length s.now) × Classes classes.now }
+pub fn is_reference(s: &[u8], part: Span) -> bool
+    requires { (part.from.0 ≤ part.to.0) × (part.to.0 ≤ length s.now) }
     ensures { result ≡ accepts (run 0 (slice part.from.0 part.to.0 s.now)) }
 {
-    accepts(run_over(classes, s, part, 0))
+    accepts(run_over(s, part, 0))
 }

@@ -1,7 +1,6 @@
 // How most references begin: with a slash and a path, or with `https://` or `http://` and behind it a block of 16 octets that holds the
 // host and, mostly, where its path begins.
 ghost use Rattle.std.specs.Prelude.{◌≡◌, true, ◌+◌, ◌≤◌, length};
-ghost use Rattle.octet_classes.specs.Classes.{Classes};
 ghost use Rattle.reference_scan.specs.Common.{is_hosted};
 ghost use Rattle.reference_scan.specs.Comes.{Comes};
 
@@ -43,26 +42,26 @@ fn opening(s: &[u8], i: usize) -> usize
 }
 
 // Whether a path begins here with its slash, and no authority.
-fn sees_root(classes: &[u8; 256], s: &[u8], i: usize) -> bool
-    requires { (i ≤ length s.now) × Classes classes.now }
+fn sees_root(s: &[u8], i: usize) -> bool
+    requires { i ≤ length s.now }
     ensures { result ≡ true → Comes s.now i 0 (i + 2) 13 }
 {
     if s.len() - i < 2 {
         return false;
     }
     let c = s[i + 1];
-    (s[i] == b'/') & (c != b'/') & is_path(classes, c)
+    (s[i] == b'/') & (c != b'/') & is_path(c)
 }
 
 // Past what begins a reference here, if that is one of these.
-pub fn past_opening(classes: &[u8; 256], s: &[u8], i: usize, q: usize) -> Judged
-    requires { (i ≤ length s.now) × Classes classes.now }
+pub fn past_opening(s: &[u8], i: usize, q: usize) -> Judged
+    requires { i ≤ length s.now }
     ensures { Comes s.now i q result.at.at.0 result.state }
 {
     if q != 0 {
         return judged_up_to(i, q);
     }
-    if sees_root(classes, s, i) {
+    if sees_root(s, i) {
         return judged_up_to(i + 2, 13);
     }
     if s.len() - i < 8 {

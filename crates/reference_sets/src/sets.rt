@@ -1,7 +1,6 @@
 // Tests of the sets of octets that the machine's states share, and of those that are passed in runs.
 ghost use Rattle.std.specs.Prelude.{◌≡◌};
 ghost use Rattle.references.specs.Octets.{has, ALPHA, DIGIT};
-ghost use Rattle.octet_classes.specs.Classes.{Classes};
 ghost use Rattle.reference_steps.specs.Machine.{plain, in_scheme};
 ghost use Rattle.reference_sets.specs.Sets.{of, is_path};
 ghost use Rattle.reference_sets.specs.Runs.{in_run};
@@ -21,19 +20,17 @@ pub fn is_alpha(c: u8) -> bool
 }
 
 // An octet of a path or a query, and so of a fragment: what a target may hold, but none of three delimiters.
-pub fn is_path(classes: &[u8; 256], c: u8) -> bool
-    requires { Classes classes.now }
+pub fn is_path(c: u8) -> bool
     ensures { result ≡ is_path c }
 {
-    is_in(classes, Set::Target, c) & (c != b'#') & (c != b'[') & (c != b']')
+    is_in(Set::Target, c) & (c != b'#') & (c != b'[') & (c != b']')
 }
 
 // Userinfo, host and segments have these in common: no delimiter that stands in a path or a query.
-pub fn is_plain(classes: &[u8; 256], c: u8) -> bool
-    requires { Classes classes.now }
+pub fn is_plain(c: u8) -> bool
     ensures { result ≡ plain (of c) }
 {
-    is_path(classes, c) & (c != b':') & (c != b'@') & (c != b'/') & (c != b'?')
+    is_path(c) & (c != b':') & (c != b'@') & (c != b'/') & (c != b'?')
 }
 
 pub fn is_scheme(c: u8) -> bool
@@ -54,15 +51,14 @@ pub enum Run {
 }
 
 // Whether the octet is of such a run.
-pub fn is_in_run(classes: &[u8; 256], run: Run, c: u8) -> bool
-    requires { Classes classes.now }
+pub fn is_in_run(run: Run, c: u8) -> bool
     ensures { result ≡ in_run run c }
 {
     match run {
-        Run::Path => is_path(classes, c),
-        Run::Host => is_plain(classes, c),
+        Run::Path => is_path(c),
+        Run::Host => is_plain(c),
         Run::Port => is_digit(c),
         Run::Scheme => is_scheme(c),
-        Run::Segment => is_plain(classes, c) | (c == b'@'),
+        Run::Segment => is_plain(c) | (c == b'@'),
     }
 }

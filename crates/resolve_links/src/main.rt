@@ -20,21 +20,12 @@ const PARAMS: usize = 1024 * records::PARAM_SLOTS;
 // Room for a line with the longest target and the longest context, or for one without them.
 const LINE: usize = 2 * answers::LIMIT + 160;
 
-// Whether there is an argument of that number; the program's name has number 0.
-fn has_arg<R: Env>(rt: &R, i: usize) -> bool {
-    let mut one = [0u8; 1];
-    !matches!(rt.arg(i, &mut one), Err(FillError::NotPresent))
-}
-
 // Puts the base at the start of the buffer, and answers its length. Unless there is one argument, the base is empty; one that doesn't fit
 // fills the buffer, which tells that it is too long.
 fn read_base<R: Env>(rt: &R, room: &mut [u8]) -> usize
     ensures { Within result room.new }
 {
-    if has_arg(rt, 2) {
-        return 0;
-    }
-    match rt.arg(1, room) {
+    match arguments::read_last(rt, 1, room) {
         Ok(n) => n,
         Err(FillError::TooLong) => room.len(),
         Err(FillError::NotPresent) => 0,
@@ -51,7 +42,8 @@ fn main(rt: HostRuntime) {
     let mut target = [0u8; answers::LIMIT];
     let mut context = [0u8; answers::LIMIT];
     let mut line = [0u8; LINE];
-    resolve_listing::list(
+    // What it answers is listed.
+    let _ = resolve_listing::list(
         octets::editions::RFC8288,
         lines::without_final_lf(&input[..n]),
         &base[..m],

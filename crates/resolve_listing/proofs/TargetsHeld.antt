@@ -5,6 +5,7 @@ use native.Mathlib.Nat.{zero-add}
 use mathlib.Core.Path.{◌≡◌, refl, subst}
 use mathlib.Core.List.{List}
 use lib.ListN.{length, drop}
+use Rattle.std.specs.Prelude.{Result, Ok}
 use Rattle.octets.specs.Editions.{further}
 use Rattle.grammar.specs.Records.{link_width, param_width, count_params}
 use Rattle.tables.specs.Table.{Table, link_at}
@@ -16,8 +17,7 @@ use Rattle.outcomes.specs.InEdition.{unknown, known}
 use Rattle.outcomes.specs.Read.{ReadOut, Read, too_long, not_derived, no_link_room, no_param_room, reads}
 use Rattle.kinds.specs.declared.Counts.{Counts}
 use Rattle.answers.specs.Read.{read_numbers, read_out}
-use Rattle.answers.specs.declared.read_answer.ReadAnswer.{ReadAnswer}
-use Rattle.answers.specs.declared.read_answer.ReadAnswer.TheVariants.{Done}
+use Rattle.answers.specs.declared.read_answer.ReadError.{ReadError}
 use Rattle.link_lines.specs.Held.{TargetHeld, TargetsHeld}
 
 good_target : {extra : Extra} {t : Table} → Good extra t → (i : ℕ) → i < t.link_count → TargetHeld t.text t.link_slots i
@@ -37,7 +37,7 @@ read_targets {h = h} {L} {P} (known {e = k} q (reads {K = K} a b c d)) e =
     good_target (read_good (further k) h K (drop (link_width * length K) L) (drop (param_width * count_params K) P) b).good
 
 -- reading's answer, known to be its table's counts
-pub done_targets : {m : ℕ} {h L P L' P' : List ℕ} {r : ReadAnswer} {n : Counts} → Read m h L P (read_out (read_numbers r) L' P')
-    → r ≡ Done n → TargetsHeld h L' n.links
+pub done_targets : {m : ℕ} {h L P L' P' : List ℕ} {r : Result Counts ReadError} {n : Counts} → Read m h L P (read_out (read_numbers r) L' P')
+    → r ≡ Ok n → TargetsHeld h L' n.links
 done_targets {m} {h} {L} {P} {L'} {P'} d e =
-    read_targets (subst (λ (y : ReadAnswer). Read m h L P (read_out (read_numbers y) L' P')) e d) refl
+    read_targets (subst (λ (y : Result Counts ReadError). Read m h L P (read_out (read_numbers y) L' P')) e d) refl

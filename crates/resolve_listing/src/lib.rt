@@ -11,76 +11,57 @@ ghost use Rattle.resolve_listing.specs.Base.{TellsBase};
 use answers::read_answer::ReadAnswer;
 use answers::{LIMIT, Refusal};
 use judging::is_uri;
-use kinds::{Counts, LinkNumber};
+use kinds::LinkNumber;
+use lent::Table;
 use link_lines::{put_link, refused_line};
 
-// Whether links can be resolved on a base, or why not.
-#[derive(Clone, Copy)]
-pub enum BaseTold {
-    Right,
-    Refused(Refusal),
-}
-
-// Whether links can be resolved on the base.
-pub fn tell_base(base: &[u8]) -> BaseTold
+// Whether links can be resolved on the base, or why not.
+pub fn tell_base(base: &[u8]) -> Result<(), Refusal>
     ensures { TellsBase base.now result }
 {
     if base.len() > LIMIT {
-        return BaseTold::Refused(Refusal::TooLong);
+        return Err(Refusal::TooLong);
     }
-    let classes = octet_classes::table();
-    if is_uri(&classes, base) {
-        return BaseTold::Right;
+    if !is_uri(base) {
+        return Err(Refusal::BadBase);
     }
-    BaseTold::Refused(Refusal::BadBase)
+    Ok(())
 }
 
 // Hands out the line of each link.
 fn put_links(
     edition: usize,
-    text: &[u8],
+    t: &Table,
     base: &[u8],
-    links: &[usize],
-    params: &[usize],
-    counts: Counts,
     target: &mut [u8],
     context: &mut [u8],
     line: &mut [u8],
 )
-    requires targets_held { TargetsHeld text.now links.now counts.links }
+    requires targets_held { TargetsHeld t.now.text.now t.now.links.now t.now.counts.links }
     requires context_in_bounds { length target.old + length context.old + 160 ≤ length line.old }
 {
-    let mut i = LinkNumber::first();
-    while i.0 < counts.links {
-        let n = put_link(
-            edition, text, base, links, params, counts, i, target, context, line,
-        );
+    for i in 0..t.counts.links {
+        let link = LinkNumber(i);
+        let n = put_link(edition, t, base, link, target, context, line);
         io::write_all(1, &line[..n]);
-        i = i.next();
     }
 }
 
 // Hands out the line of each link, or why there is none.
 fn put_on_base(
     edition: usize,
-    text: &[u8],
+    t: &Table,
     base: &[u8],
-    links: &[usize],
-    params: &[usize],
-    counts: Counts,
     target: &mut [u8],
     context: &mut [u8],
     line: &mut [u8],
 )
-    requires targets_held { TargetsHeld text.now links.now counts.links }
+    requires targets_held { TargetsHeld t.now.text.now t.now.links.now t.now.counts.links }
     requires context_in_bounds { length target.old + length context.old + 160 ≤ length line.old }
 {
-    let told = tell_base(base);
-    match told {
-        BaseTold::Refused(why) => listing::put(refused_line(why)),
-        BaseTold::Right => put_links(
-            edition, text, base, links, params, counts, target, context, line,
-        ),
+    match tell_base(base) {
+        Err(why) => listing::put(refused_line(why)),
+        Ok(()) => put_links(edition, t, base, target, context, line),
     }
 }
 
@@ -101,12 +82,16 @@ pub fn list(
         (read_out (read_numbers result) links.new params.new) }
 {
     let answer = reader::read(edition, header, links, params);
-    if let ReadAnswer::Done(counts) = answer {
-        put_on_base(
-            edition, header, base, links, params, counts, target, context, line,
-        );
+    if let Ok(counts) = answer {
+        let t = Table {
+            text: header,
+            links,
+            params,
+            counts,
+        };
+        put_on_base(edition, &t, base, target, context, line);
         return answer;
     }
-    listing::put(lines::refusal_line(answer.numbers()));
+    listing::put(lines::refusal_line(answer.into()));
     answer
 }

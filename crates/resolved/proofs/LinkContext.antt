@@ -4,6 +4,7 @@ use mathlib.Core.Path.{◌≡◌, sym, ap, subst, ◌∙◌}
 use mathlib.Core.List.{List}
 use lib.ListN.{length}
 use lib.Seq.{slice}
+use Rattle.std.specs.Prelude.{Option, Some, None}
 use Rattle.octets.specs.Editions.{further}
 use Rattle.octets.specs.Text.{octets}
 use Rattle.octets.specs.declared.editions.Edition.TheVariants.{Rfc5988}
@@ -29,17 +30,15 @@ use Rattle.outcomes.specs.Copy.{CopyOut, untouched}
 use Rattle.outcomes.specs.Resolve.{Fitted}
 use Rattle.outcomes.specs.ResolvedContext.{ContextOn, bad_reference, anchored, unanchored, long_base, over_table, ResolvedContext}
 use Rattle.named.specs.First.{FirstCoded, found}
-use Rattle.named.specs.declared.Named.{Named}
-use Rattle.named.specs.declared.Named.TheVariants.{Found, Absent}
 use Rattle.context.proofs.Anchored.{is_found}
 use Rattle.resolved.specs.OnBase.{OnBase, wrong, right}
 
 -- the link's record is r, and a answers what was found among its parameters
-module _ {t : Table} {i : ℕ} (u : Usable Rfc5988 t) (l : i < t.link_count) {r : LinkRecord} (is : IsLink t.link_slots i r) (a : Named)
+module _ {t : Table} {i : ℕ} (u : Usable Rfc5988 t) (l : i < t.link_count) {r : LinkRecord} (is : IsLink t.link_slots i r) (a : Option ParamParts)
     (first : FirstCoded t.param_slots r 2 a) where
   -- its `anchor`
-  module _ {p : ParamParts} (e : a ≡ Found p) where
-    is_kept : anchor t i ≡ found (Found p)
+  module _ {p : ParamParts} (e : a ≡ Some p) where
+    is_kept : anchor t i ≡ found (Some p)
     is_kept = is_found u l is a first ∙ ap found e
 
     good_there : GoodParam (further Rfc5988) t.text (to_param p)
@@ -56,7 +55,7 @@ module _ {t : Table} {i : ℕ} (u : Usable Rfc5988 t) (l : i < t.link_count) {r 
         anchored l b is_kept (rw v w) (subst (λ (x : List ℕ). Fitted out (resolved base x) o) (sym v) f)
 
   -- it has none
-  pub untold : {base out : List ℕ} {o : CopyOut} → a ≡ Absent → IsURI base → Fitted out (resolved base (bare_of t.text 0 0)) o
+  pub untold : {base out : List ℕ} {o : CopyOut} → a ≡ None → IsURI base → Fitted out (resolved base (bare_of t.text 0 0)) o
       → ContextOn t base i out o
   untold {base} {out} {o} e b f =
       let q : resolved base (bare_of t.text 0 0) ≡ unfragmented base =

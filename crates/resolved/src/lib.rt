@@ -4,8 +4,6 @@
 
 ghost use Rattle.std.specs.Prelude.{[], ◌∷◌, ◌≤◌, ◌<◌, length};
 ghost use Rattle.octets.specs.declared.editions.Edition.TheVariants.{Rfc5988};
-ghost use Rattle.octet_classes.specs.Classes.{Classes};
-ghost use Rattle.tables.specs.Table.{table_of};
 ghost use Rattle.tables.specs.Good.{InText};
 ghost use Rattle.outcomes.specs.Usable.{Usable};
 ghost use Rattle.outcomes.specs.ResolvedContext.{ContextOn, ResolvedContext};
@@ -13,71 +11,54 @@ ghost use Rattle.answers.specs.Length.{length_numbers, length_out};
 ghost use Rattle.values.specs.Rest.{rest};
 ghost use Rattle.references.proofs.Clear.{Free};
 ghost use Rattle.resolved.specs.OnBase.{OnBase, RefusedLong};
+ghost use Rattle.lent.specs.Lent.{lent};
 
 use answers::length_answer::LengthAnswer;
 use answers::{LIMIT, Refusal};
 use judging::{is_meant_reference, is_uri};
-use kinds::{Counts, LinkNumber, Place, Span};
-use named::Named;
-use octets::editions::{Asked, edition_of};
+use kinds::{LinkNumber, Place, Span};
+use lent::Table;
+use octets::editions::edition_of;
 use resolving::put_resolved;
-use table_check::{TableState, state_of};
+use table_check::state_of;
 
 // What the part means, resolved on a base that is right.
-fn anchored(
-    classes: &[u8; 256],
-    text: &[u8],
-    base: &[u8],
-    part: Span,
-    out: &mut [u8],
-) -> LengthAnswer
-    requires in_text { InText text.now part.from.0 part.to.0 × (length text.now ≤ 8192) × Classes classes.now }
+fn anchored(text: &[u8], base: &[u8], part: Span, out: &mut [u8]) -> LengthAnswer
+    requires in_text { InText text.now part.from.0 part.to.0 × (length text.now ≤ 8192) }
     requires free { Free (92 ∷ []) base.now × (length base.now ≤ 8192) }
     ensures { OnBase base.now (rest text.now part.to.0 part.from.0) out.old
         (length_out (length_numbers result) out.new) }
 {
-    if !is_meant_reference(classes, text, part) {
-        return LengthAnswer::Refused(Refusal::BadReference);
+    if !is_meant_reference(text, part) {
+        return Err(Refusal::BadReference);
     }
     put_resolved(base, text, part, out)
 }
 
 // The context of a link. The older edition stands for all: what is good in any of them is good in it.
-fn context_at(
-    classes: &[u8; 256],
-    text: &[u8],
-    base: &[u8],
-    links: &[usize],
-    params: &[usize],
-    counts: Counts,
-    link: LinkNumber,
-    out: &mut [u8],
-) -> LengthAnswer
-    requires usable { Usable Rfc5988 (table_of text.now links.now params.now counts.links counts.params) × Classes classes.now }
+fn context_at(t: &Table, base: &[u8], link: LinkNumber, out: &mut [u8]) -> LengthAnswer
+    requires usable { Usable Rfc5988 (lent t.now) }
     requires base_len_bound { length base.now ≤ 8192 }
-    ensures { ContextOn (table_of text.now links.now params.now counts.links counts.params)
+    ensures { ContextOn (lent t.now)
         base.now link.0 out.old (length_out (length_numbers result) out.new) }
 {
-    if link.0 >= counts.links {
-        return LengthAnswer::Refused(Refusal::NoSuchLink);
+    if link.0 >= t.counts.links {
+        return Err(Refusal::NoSuchLink);
     }
-    if !is_uri(classes, base) {
-        return LengthAnswer::Refused(Refusal::BadBase);
+    if !is_uri(base) {
+        return Err(Refusal::BadBase);
     }
-    let l = records::link_at(links, link);
-    let anchor = named::first_of(params, l, names::ANCHOR);
+    let l = records::link_at(t.links, link);
+    let anchor = named::first_of(t.params, l, names::ANCHOR);
     match anchor {
-        Named::Absent => {
+        None => {
             let nothing = Span {
                 from: Place(0),
                 to: Place(0),
             };
-            put_resolved(base, text, nothing, out)
+            put_resolved(base, t.text, nothing, out)
         }
-        Named::Found(p) => {
-            let part = p.value;
-            anchored(classes, text, base, part, out)
-        }
+        Some(p) => anchored(t.text, base, p.value, out),
     }
 }
 
@@ -86,33 +67,26 @@ fn refused_long(edition: usize) -> Refusal
     ensures { RefusedLong edition result }
 {
     match edition_of(edition) {
-        Asked::Unknown => Refusal::UnknownEdition,
-        Asked::Known(_) => Refusal::TooLong,
+        None => Refusal::UnknownEdition,
+        Some(_) => Refusal::TooLong,
     }
 }
 
 // Writes the resolved context of a link, and answers how many octets that is.
 pub fn resolved_context(
     edition: usize,
-    text: &[u8],
+    t: &Table,
     base: &[u8],
-    links: &[usize],
-    params: &[usize],
-    counts: Counts,
     link: LinkNumber,
     out: &mut [u8],
 ) -> LengthAnswer
     ensures { ResolvedContext edition
-        (table_of text.now links.now params.now counts.links counts.params)
+        (lent t.now)
         base.now link.0 out.old (length_out (length_numbers result) out.new) }
 {
     if base.len() > LIMIT {
-        return LengthAnswer::Refused(refused_long(edition));
+        return Err(refused_long(edition));
     }
-    let classes = octet_classes::table();
-    let state = state_of(&classes, edition, text, links, params, counts);
-    match state {
-        TableState::Refused(why) => LengthAnswer::Refused(why),
-        TableState::Usable => context_at(&classes, text, base, links, params, counts, link, out),
-    }
+    state_of(edition, t)?;
+    context_at(t, base, link, out)
 }

@@ -29,13 +29,13 @@ pub fn put_resolved(base: &[u8], s: &[u8], part: Span, out: &mut [u8]) -> Length
     let n = measure(base, s, r);
     let whole = n.whole;
     if whole > LIMIT {
-        return LengthAnswer::Refused(Refusal::TooLong);
+        return Err(Refusal::TooLong);
     }
     if whole > out.len() {
-        return LengthAnswer::Refused(Refusal::NoOutputRoom);
+        return Err(Refusal::NoOutputRoom);
     }
     put_result(base, s, r, n, out);
-    LengthAnswer::Wrote(whole)
+    Ok(whole)
 }
 
 // Writes what the reference gives on the base, and answers how many octets that is.
@@ -44,23 +44,22 @@ pub fn resolve(reference: &[u8], base: &[u8], out: &mut [u8]) -> LengthAnswer
 {
     let end = reference.len();
     if end > LIMIT {
-        return LengthAnswer::Refused(Refusal::TooLong);
+        return Err(Refusal::TooLong);
     }
     if base.len() > LIMIT {
-        return LengthAnswer::Refused(Refusal::TooLong);
+        return Err(Refusal::TooLong);
     }
     let part = Span {
         from: Place(0),
         to: Place(end),
     };
-    let classes = octet_classes::table();
-    let right_base = is_uri(&classes, base);
-    let right = is_reference(&classes, reference, part);
+    let right_base = is_uri(base);
+    let right = is_reference(reference, part);
     if !right_base {
-        return LengthAnswer::Refused(Refusal::BadBase);
+        return Err(Refusal::BadBase);
     }
     if !right {
-        return LengthAnswer::Refused(Refusal::BadReference);
+        return Err(Refusal::BadReference);
     }
     put_resolved(base, reference, part, out)
 }

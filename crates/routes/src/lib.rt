@@ -76,9 +76,11 @@ pub fn put_result(base: &[u8], s: &[u8], r: Route, n: Lengths, out: &mut [u8])
     requires measured { Measured base.now s.now r n × (n.whole ≤ length out.old) }
     ensures { Put out.old out.new 0 n.whole (laid base.now s.now r) }
 {
-    let from = Place(0);
-    let to = r.head;
-    let head = Span { from, to };
+    // by its fields: with `Span::up_to` the proof of each part behind it would rewrite this span
+    let head = Span {
+        from: Place(0),
+        to: r.head,
+    };
     let front = r.front;
     let tail = r.tail;
     let end = OutPlace(n.path);

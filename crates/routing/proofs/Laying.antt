@@ -16,7 +16,7 @@ use Rattle.bare.proofs.Bare.{bare_of_none}
 use Rattle.leading_dots.specs.Leads.{Trims}
 use Rattle.components.specs.Cuts.{CutsOf}
 use Rattle.components.specs.declared.Cuts.{Cuts}
-use Rattle.routes.specs.Laid.{part, laid, Lies}
+use Rattle.routes.specs.Laid.{part, Lies}
 use Rattle.routing.specs.Plans.{route_of, Plans}
 use Rattle.routing.specs.Routed.{Routed}
 use Rattle.routing.specs.declared.Plan.{Plan}

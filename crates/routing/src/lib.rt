@@ -28,15 +28,12 @@ fn folder_end(s: &[u8], from: Place, to: Place) -> Place
     requires { InText s.now from.0 to.0 }
     ensures { FolderEnds s.now from.0 to.0 result.0 }
 {
-    let first = from.0;
-    let mut i = to.0;
-    while first < i {
-        if s[i - 1] == b'/' {
-            return Place(i);
+    for i in (from.0..to.0).rev() {
+        if s[i] == b'/' {
+            return Place(i + 1);
         }
-        i -= 1;
     }
-    Place(i)
+    from
 }
 
 // What is put before a path that is merged with the base's: the base's folder; or, behind an authority and no path, a slash, for which the

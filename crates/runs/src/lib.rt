@@ -11,11 +11,13 @@ use folding::same_octet;
 use kinds::{Place, Span};
 
 // Where the SPs end that are meant from place `from` on, or, where `spaces` is false, the octets other than SP.
+// `spaces` is a flag and no closure: `Skipped` and the lemmas on it tell of the flag, so a closure would be no plainer.
 fn skip(s: &[u8], from: Place, e: Place, spaces: bool) -> Place
     requires { InText s.now from.0 e.0 }
     ensures { Skipped spaces s.now e.0 from.0 result.0 }
 {
     let mut k = from;
+    // Steps by one octet or two, so a for loop doesn't fit.
     while k.0 < e.0 {
         let here = k.0;
         let mut p = k;
@@ -49,7 +51,8 @@ fn agrees(q: &[u8], i: usize, c: u8) -> bool
     i < q.len() && same_octet(c, q[i])
 }
 
-// What comparing a run found: whether it is the same, folded, and the place behind it.
+// What comparing a run found: whether it is the same, folded, and the place behind it. The place is told either way, so an Option of it would
+// say less.
 #[derive(Clone, Copy)]
 pub struct RunMatch {
     pub same: bool,
@@ -63,6 +66,7 @@ pub fn match_run(s: &[u8], from: Place, e: Place, q: &[u8]) -> RunMatch
 {
     let mut i = 0;
     let mut k = from;
+    // Steps by one octet or two, so a for loop doesn't fit.
     while k.0 < e.0 {
         let h = k.0;
         let mut p = k;

@@ -3,16 +3,15 @@ use Prim.Native.Nat.{ℕ, suc, ◌+◌, ◌≤◌, ◌<◌}
 use native.Mathlib.Omega.{arith}
 use native.Mathlib.Numerals.{add-one}
 use mathlib.Core.Path.{◌≡◌, refl, sym, ap, subst, ◌∙◌}
-use mathlib.Core.Bool.{Bool, true, false, not}
+use mathlib.Core.Bool.{false}
 use mathlib.Core.List.{List}
 use lib.ListN.{length, get_or}
-use borrow.Author.Tests.{not-true, not-false}
 use Rattle.octets.specs.Sets.{is_plain, is_escapable}
 use Rattle.grammar.specs.Grammar.{Extra, At, In, Run, run_end, run_more, Inside, inside_end, plain, pair}
 use Rattle.grammar.proofs.Classes.{plain_not_quote, plain_not_backslash}
 use Rattle.grammar.specs.Machine.{quote, escape, Open}
 use Rattle.cursor.specs.Passed.{Passed, Looked, LookedIn}
-use Rattle.scan_parts.specs.declared.Scan.TheVariants.{Stuck}
+use Rattle.std.specs.Prelude.{Err}
 use Rattle.scan_parts.specs.Stands.{Stands}
 use Rattle.scan_parts.specs.Scanned.{InsideScanned, no_quote}
 use Rattle.scan_parts.proofs.Standing.{stands_on, halts}
@@ -58,32 +57,31 @@ module _ {s : List ℕ} where
       }
 
   -- a pair, and a run behind it
-  module _ {a i j : ℕ} {r : Bool} (g : InsideSoFar s a i) (q : At s i 92) (k : j ≡ i + 1) (u : LookedIn is_escapable s j r) where
-    pub more : {m e : ℕ} → not r ≡ false → m ≡ j + 1 → Passed is_plain s m e → InsideSoFar s a e
-    more {m} {e} w z p =
+  module _ {a i j : ℕ} (g : InsideSoFar s a i) (q : At s i 92) (k : j ≡ i + 1) where
+    pub more : {m e : ℕ} → In s is_escapable j → m ≡ j + 1 → Passed is_plain s m e → InsideSoFar s a e
+    more {m} {e} u z p =
         let n : j ≡ suc i = k ∙ add-one i in
         record {
           derived =
               inside_append g.derived
-              (pair q (subst (In s is_escapable) n (u.yes (not-false r w)))
+              (pair q (subst (In s is_escapable) n u)
               (subst (λ (x : ℕ). Inside s x e) (z ∙ add-one j ∙ ap suc n) (run_inside p.run)));
           forward = omega (arith, g.forward, p.forward, z, k);
           inside = p.inside;
           stops = p.stops;
         }
 
-    pub no_pair : not r ≡ true → InsideScanned s a (Stuck (record { 0 = j }))
-    no_pair w =
+    pub no_pair : LookedIn is_escapable s j false → InsideScanned s a (Err (record { 0 = j }))
+    no_pair u =
         no_quote
         (λ extra o n e v p z.
         halts
         (subst (Stands extra s (escape o n e v)) (sym (k ∙ add-one i))
         (stands_on (escape o n e v) (inside_stands o n e v g.derived p) q.inside (rw q.is))) refl refl
-        (λ h. rw (u.not (not-true r w) h)) z)
+        (λ h. rw (u.not refl h)) z)
 
-  pub no_octet : {a i : ℕ} {x y : Bool} → InsideSoFar s a i → Looked s i 34 x → x ≡ false → Looked s i 92 y → not y ≡ true
-      → InsideScanned s a (Stuck (record { 0 = i }))
-  no_octet {y = y} g l x k f =
+  pub no_octet : {a i : ℕ} → InsideSoFar s a i → Looked s i 34 false → Looked s i 92 false → InsideScanned s a (Err (record { 0 = i }))
+  no_octet g l k =
       no_quote
       (λ extra o n e v p z.
-      halts (inside_stands o n e v g.derived p) refl refl (λ h. rw (l.not x h, k.not (not-true y f) h, g.stops h)) z)
+      halts (inside_stands o n e v g.derived p) refl refl (λ h. rw (l.not refl h, k.not refl h, g.stops h)) z)

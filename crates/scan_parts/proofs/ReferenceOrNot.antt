@@ -3,7 +3,7 @@ use Prim.Native.Nat.{ℕ, suc, ◌-◌, ◌≤◌, ◌<◌}
 use native.Mathlib.Omega.{arith}
 use native.Mathlib.Decide.{dec_lt}
 use mathlib.Core.Path.{◌≡◌, sym, ap, subst, ◌∙◌}
-use mathlib.Core.Bool.{true, false, false≢true}
+use mathlib.Core.Bool.{true, false≢true}
 use mathlib.Core.List.{List}
 use lib.Seq.{slice}
 use Rattle.reference_steps.specs.Machine.{step, run, accepts}
@@ -26,8 +26,7 @@ use Rattle.tables.proofs.Texts.{target_le}
 use Rattle.tables.proofs.ReferenceText.{reference_target}
 use Rattle.kinds.specs.declared.Place.{Place}
 use Rattle.cursor.specs.declared.Cursor.{Cursor}
-use Rattle.scan_parts.specs.declared.Scan.{Scan}
-use Rattle.scan_parts.specs.declared.Scan.TheVariants.{Stuck, Past}
+use Rattle.std.specs.Prelude.{Ok, Err}
 use Rattle.scan_parts.specs.Stands.{Stands}
 use Rattle.scan_parts.specs.Scanned.{TargetScanned, no_target, closed, ReferenceScanned, no_reference, a_reference}
 use Rattle.scan_parts.proofs.TargetSoFar.{target_stands}
@@ -47,7 +46,7 @@ closed_bad s {a} {d} t q n extra ls p refs =
     }
 
 module _ {s : List ℕ} {a : ℕ} {r : Judged} (j : Judges s a 0 r) where
-  pub is_reference_lem : {c : Cursor} → c.at.0 ≡ r.at.at.0 → accepts r.state ≡ true → At s c.at.0 62 → ReferenceScanned s a (Past c)
+  pub is_reference_lem : {c : Cursor} → c.at.0 ≡ r.at.at.0 → accepts r.state ≡ true → At s c.at.0 62 → ReferenceScanned s a (Ok c)
   is_reference_lem {c} e y q =
       let reference : ReferenceAt s a r.at.at.0 =
       steps_exact.reference (slice a r.at.at.0 s) (ap accepts (sym j.state) ∙ y)
@@ -88,17 +87,11 @@ module _ {s : List ℕ} {a : ℕ} {r : Judged} (j : Judges s a 0 r) where
           let e : r.at.at.0 ≡ d = omega arith in
           n e (ap accepts (j.state ∙ ap (λ (i : ℕ). run 0 (slice a i s)) e) ∙ yes_by_run)
 
-  pub closed_all_the_same : {d : Cursor} {u : Scan} → TargetScanned s a u → u ≡ Past d
-      → (At s r.at.at.0 62 → accepts r.state ≡ true → ⊥) → ReferenceScanned s a (Stuck (record { 0 = a }))
-  closed_all_the_same {d} {u} t e n = go (subst (TargetScanned s a) e t)
-    where
-      go : {d : Cursor} → TargetScanned s a (Past d) → ReferenceScanned s a (Stuck (record { 0 = a }))
-      go (closed {c = d} x q) =
-          no_reference
-          (closed_bad s x q (tells q (target_le s x) (λ w y. n (subst (λ (i : ℕ). At s i 62) (sym w) q) y)))
+  pub closed_all_the_same : {d : Cursor} → TargetScanned s a (Ok d) → (At s r.at.at.0 62 → accepts r.state ≡ true → ⊥)
+      → ReferenceScanned s a (Err (record { 0 = a }))
+  closed_all_the_same (closed x q) n =
+      no_reference
+      (closed_bad s x q (tells q (target_le s x) (λ w y. n (subst (λ (i : ℕ). At s i 62) (sym w) q) y)))
 
-pub stuck_all_the_same : {s : List ℕ} {a : ℕ} {p : Place} {u : Scan} → TargetScanned s a u → u ≡ Stuck p → ReferenceScanned s a (Stuck p)
-stuck_all_the_same {s} {a} t e = go (subst (TargetScanned s a) e t)
-  where
-    go : {p : Place} → TargetScanned s a (Stuck p) → ReferenceScanned s a (Stuck p)
-    go (no_target f) = no_reference (λ extra ls x refs. f extra ls a x refs)
+pub stuck_all_the_same : {s : List ℕ} {a : ℕ} {p : Place} → TargetScanned s a (Err p) → ReferenceScanned s a (Err p)
+stuck_all_the_same {a = a} (no_target f) = no_reference (λ extra ls x refs. f extra ls a x refs)

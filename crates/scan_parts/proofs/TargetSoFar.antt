@@ -3,10 +3,9 @@ use Prim.Native.Nat.{ℕ, suc, ◌+◌, ◌≤◌, ◌<◌}
 use native.Mathlib.Omega.{arith}
 use native.Mathlib.Numerals.{add-one}
 use mathlib.Core.Path.{◌≡◌, refl, sym, ap, subst, ◌∙◌}
-use mathlib.Core.Bool.{Bool, true, false, not}
+use mathlib.Core.Bool.{false}
 use mathlib.Core.List.{List}
 use lib.ListN.{length, get_or}
-use borrow.Author.Tests.{not-true}
 use Rattle.octets.specs.Sets.{is_target, is_hex}
 use Rattle.grammar.specs.Link.{Link}
 use Rattle.grammar.specs.Grammar.{Extra, At, In, Run, run_end, run_more, Target, target_end, octet, triple}
@@ -14,8 +13,7 @@ use Rattle.grammar.specs.Machine.{target, percent, hex}
 use Rattle.cursor.specs.Passed.{Passed, Looked}
 use Rattle.kinds.specs.declared.Place.{Place}
 use Rattle.cursor.specs.declared.Cursor.{Cursor}
-use Rattle.scan_parts.specs.declared.Scan.{Scan}
-use Rattle.scan_parts.specs.declared.Scan.TheVariants.{Stuck, Past}
+use Rattle.std.specs.Prelude.{Ok, Err}
 use Rattle.scan_parts.specs.Stands.{Stands}
 use Rattle.scan_parts.specs.Scanned.{TripleScanned, no_digit, digits, TargetScanned, no_target}
 use Rattle.scan_parts.proofs.Standing.{stands_on, halts}
@@ -61,48 +59,32 @@ module _ {s : List ℕ} where
         stops = g.stops;
       }
 
-  past_digits : {j : ℕ} {d : Cursor} {r : Scan} → TripleScanned s j r → r ≡ Past d
-      → (d.at.0 ≡ suc (suc j)) × In s is_hex j × In s is_hex (suc j)
-  past_digits {j} t w = go (subst (TripleScanned s j) w t)
-    where
-      go : {d : Cursor} → TripleScanned s j (Past d) → (d.at.0 ≡ suc (suc j)) × In s is_hex j × In s is_hex (suc j)
-      go (digits e x y) = (e, x, y)
-
   -- a triple, and a run behind it
-  module _ {a i j : ℕ} {r : Scan} (g : TargetSoFar s a i) (q : At s i 37) (k : j ≡ i + 1) (u : TripleScanned s j r) where
-    pub more : {e : ℕ} {d : Cursor} → r ≡ Past d → Passed is_target s d.at.0 e → TargetSoFar s a e
-    more {e} w p =
+  module _ {a i j : ℕ} (g : TargetSoFar s a i) (q : At s i 37) (k : j ≡ i + 1) where
+    pub more : {e : ℕ} {d : Cursor} → TripleScanned s j (Ok d) → Passed is_target s d.at.0 e → TargetSoFar s a e
+    more {e} (digits z x y) p =
         let n : j ≡ suc i = k ∙ add-one i in
-        let t = past_digits u w in
         record {
           derived =
               target_append g.derived
-              (triple q (subst (In s is_hex) n t.1) (subst (λ (x : ℕ). In s is_hex (suc x)) n t.2)
-              (subst (λ (x : ℕ). Target s x e) (t.0 ∙ ap (λ (x : ℕ). suc (suc x)) n) (run_target p.run)));
-          forward = omega (arith, g.forward, p.forward, t.0);
+              (triple q (subst (In s is_hex) n x) (subst (λ (m : ℕ). In s is_hex (suc m)) n y)
+              (subst (λ (m : ℕ). Target s m e) (z ∙ ap (λ (x : ℕ). suc (suc x)) n) (run_target p.run)));
+          forward = omega (arith, g.forward, p.forward, z);
           inside = p.inside;
           stops = p.stops;
         }
 
-    pub no_triple : {p : Place} → r ≡ Stuck p → TargetScanned s a (Stuck p)
+    pub no_triple : {p : Place} → TripleScanned s j (Err p) → TargetScanned s a (Err p)
     unfolding is_target
-    no_triple e = go (subst (TripleScanned s j) e u)
-      where
-        go : {p : Place} → TripleScanned s j (Stuck p) → TargetScanned s a (Stuck p)
-        go (no_digit f) =
-            no_target
-            (λ extra ls b p r.
-            f extra ls b
-            (subst (Stands extra s (percent ls b)) (sym (k ∙ add-one i))
-            (stands_on (percent ls b) (target_stands ls b g.derived p) q.inside (rw q.is))) r)
+    no_triple (no_digit f) =
+        no_target
+        (λ extra ls b p r.
+        f extra ls b
+        (subst (Stands extra s (percent ls b)) (sym (k ∙ add-one i))
+        (stands_on (percent ls b) (target_stands ls b g.derived p) q.inside (rw q.is))) r)
 
-  -- the cursor behind a triple is in the text
-  pub past_inside : {j : ℕ} {d : Cursor} {r : Scan} → TripleScanned s j r → r ≡ Past d → (suc j ≤ d.at.0) × (d.at.0 ≤ length s)
-  past_inside u w = let t = past_digits u w in (omega (arith, t.0), omega (arith, t.0, t.2.inside))
-
-  pub no_octet : {a i : ℕ} {x y : Bool} → TargetSoFar s a i → Looked s i 62 x → x ≡ false → Looked s i 37 y → not y ≡ true
-      → TargetScanned s a (Stuck (record { 0 = i }))
-  no_octet {y = y} g l e k f =
+  pub no_octet : {a i : ℕ} → TargetSoFar s a i → Looked s i 62 false → Looked s i 37 false → TargetScanned s a (Err (record { 0 = i }))
+  no_octet g l k =
       no_target
       (λ extra ls b p r.
-      halts (target_stands ls b g.derived p) refl refl (λ h. rw (g.stops h, k.not (not-true y f) h, l.not e h)) r)
+      halts (target_stands ls b g.derived p) refl refl (λ h. rw (g.stops h, k.not refl h, l.not refl h)) r)

@@ -1,14 +1,12 @@
 // The value of a parameter, behind `=` and blanks.
 ghost use Rattle.std.specs.Prelude.{cond, ◌≡◌, eqb};
 ghost use Rattle.octets.specs.Editions.{further};
-ghost use Rattle.octet_classes.specs.Classes.{Classes};
 ghost use Rattle.scan_parts.specs.Stands.{Clear};
 ghost use Rattle.scan_parts.specs.Scanned.{ValueScanned};
 
 use crate::quoted::past_inside;
-use crate::{ParamScan, Scan};
 use cursor::Cursor;
-use kinds::Span;
+use kinds::{Place, Span};
 use octets::editions::Edition;
 use records::ParamParts;
 
@@ -19,41 +17,33 @@ pub fn bare_form(k: Cursor, e: Cursor) -> usize
     if k.at.0 == e.at.0 { 1 } else { 3 }
 }
 
-// With its value, the parameter of this name is whole.
+// With its value, the parameter of this name is whole: its parts, and the cursor behind it.
 pub fn past_value(
-    classes: &[u8; 256],
     edition: Edition,
     s: &[u8],
     name: Span,
     from: Cursor,
-) -> ParamScan
-    requires { Clear s.now from.at.0 × Classes classes.now }
+) -> Result<(ParamParts, Cursor), Place>
+    requires { Clear s.now from.at.0 }
     ensures { ValueScanned (further edition) s.now name from.at.0 result }
 {
     if from.sees(s, b'"') {
         let start = from.past_octet(s);
-        return match past_inside(classes, s, start) {
-            Scan::Stuck(p) => ParamScan::NoParam(p),
-            Scan::Past(q) => {
-                let value = start.span_to(q);
-                ParamScan::Param(
-                    ParamParts {
-                        name,
-                        value,
-                        form: 2,
-                    },
-                    q.past_octet(s),
-                )
-            }
+        let q = past_inside(s, start)?;
+        let value = start.span_to(q);
+        let parts = ParamParts {
+            name,
+            value,
+            form: 2,
         };
+        return Ok((parts, q.past_octet(s)));
     }
-    let k = from.past_token(classes, s);
-    let e = k.past_further(classes, s, edition);
+    let k = from.past_token(s);
+    let e = k.past_further(s, edition);
     if e.at.0 == from.at.0 {
-        let at = from.at;
-        return ParamScan::NoParam(at);
+        return Err(from.at);
     }
     let value = from.span_to(e);
     let form = bare_form(k, e);
-    ParamScan::Param(ParamParts { name, value, form }, e)
+    Ok((ParamParts { name, value, form }, e))
 }

@@ -3,10 +3,9 @@ use Prim.Native.Nat.{ℕ, suc, ◌+◌, ◌≤◌, ◌<◌}
 use native.Mathlib.Omega.{arith}
 use native.Mathlib.Numerals.{add-one}
 use mathlib.Core.Path.{◌≡◌, refl, sym, ap, subst, ◌∙◌}
-use mathlib.Core.Bool.{Bool, true, false, not}
+use mathlib.Core.Bool.{false}
 use mathlib.Core.List.{List, [], ◌∷◌, map, reverse}
 use lib.ListN.{length}
-use borrow.Author.Tests.{not-true}
 use Rattle.octets.specs.Sets.{is_blank}
 use Rattle.grammar.specs.Link.{Link}
 use Rattle.grammar.specs.Grammar.{Extra, Admissible, At, Field}
@@ -21,9 +20,7 @@ use Rattle.cursor.specs.Passed.{Passed, Looked}
 use Rattle.cursor.specs.declared.Cursor.{Cursor}
 use Rattle.scan_parts.specs.Stands.{Stands}
 use Rattle.scan_parts.proofs.Standing.{stands_start, halts_at, finishes}
-use Rattle.scanner.specs.declared.link.LinkScan.{LinkScan}
-use Rattle.scanner.specs.declared.link.LinkScan.TheVariants.{NoLink, Whole}
-use Rattle.scanner.specs.declared.HeaderScan.TheVariants.{Malformed, Counted}
+use Rattle.std.specs.Prelude.{Ok, Err}
 use Rattle.scanner.specs.Linked.{WholeLink, LinkNoted, LinkScanned, no_link, a_link, ReadingNoted, HeaderScanned, malformed_at, counted}
 use Rattle.scanner.proofs.ReadyBehindLink.{link_of, link_forward}
 use Rattle.scanner.proofs.BetweenLinks.{
@@ -53,7 +50,7 @@ pub record LinksSoFar (extra : Extra) (s : List ℕ) (i : ℕ) (n : Counts) (L L
 -- a header that ends with these links read has their counts, and their records are noted
 counts : (extra : Extra) (s : List ℕ) (ls : List Link) {n : Counts} {L L' P P' : List ℕ} → Field extra s (reverse ls) → References s ls
     → n.links ≡ length ls → n.params ≡ count_params (map (kept_link s) ls) → n.params ≤ length s → ReadingNoted s (ordered s ls) L L' P P'
-    → HeaderScanned extra s L L' P P' (Counted n)
+    → HeaderScanned extra s L L' P P' (Ok n)
 counts extra s ls f refs x y z k =
     counted
     (record {
@@ -88,7 +85,7 @@ module _ {extra : Extra} {s : List ℕ} where
     here : Stands extra s (gap b.links) j
     here = gap_blanks b.stands p
 
-    pub ended : length s ≤ j → HeaderScanned extra s L L' P P' (Counted n)
+    pub ended : length s ≤ j → HeaderScanned extra s L L' P P' (Ok n)
     ended h =
         counts extra s b.links (finishes here h refl) b.references b.link_count b.param_count
         (omega (arith, b.few_params, b.stands.inside)) b.noted
@@ -106,26 +103,21 @@ module _ {extra : Extra} {s : List ℕ} where
           noted = b.noted;
         }
 
-    pub no_start : {x y : Bool} → j < length s → Looked s j 44 x → x ≡ false → Looked s j 60 y → not y ≡ true
-        → HeaderScanned extra s L L' P P' (Malformed (record { 0 = j }))
-    no_start {y = y} h l e k f = malformed_at (halts_at here refl h (rw (p.stops h, l.not e h, k.not (not-true y f) h)) b.references)
+    pub no_start : j < length s → Looked s j 44 false → Looked s j 60 false → HeaderScanned extra s L L' P P' (Err (record { 0 = j }))
+    no_start h l k = malformed_at (halts_at here refl h (rw (p.stops h, l.not refl h, k.not refl h)) b.references)
 
-    module _ {k u v : ℕ} {L'' P'' : List ℕ} {r : LinkScan} (q : At s j 60) (e : k ≡ j + 1) (number : u ≡ n.links) (first : v ≡ n.params)
-        (l : LinkScanned extra s k u v L' L'' P' P'' r) where
+    module _ {k u v : ℕ} (q : At s j 60) (e : k ≡ j + 1) (number : u ≡ n.links) (first : v ≡ n.params) where
       begun : Stands extra s (target b.links k) k
       begun = target_begins here q e
 
-      pub link_stuck : {p : Place} → r ≡ NoLink p → HeaderScanned extra s L L'' P P'' (Malformed p)
-      link_stuck z = go (subst (LinkScanned extra s k u v L' L'' P' P'') z l)
-        where
-          go : {p : Place} → LinkScanned extra s k u v L' L'' P' P'' (NoLink p) → HeaderScanned extra s L L'' P P'' (Malformed p)
-          go (no_link f) = malformed_at (f b.links begun b.references)
+      pub link_stuck : {L'' P'' : List ℕ} {p : Place} → LinkScanned extra s k u v L' L'' P' P'' (Err p) → HeaderScanned extra s L L'' P P'' (Err p)
+      link_stuck (no_link f) = malformed_at (f b.links begun b.references)
 
-      module _ {d : Cursor} {x : ℕ} (z : r ≡ Whole d x) where
+      module _ {L'' P'' : List ℕ} {d : Cursor} {x : ℕ} (l : LinkScanned extra s k u v L' L'' P' P'' (Ok (d, x))) where
         judged : (w : WholeLink extra s k d.at.0 x) × ReferenceAt s k w.close × LinkNoted extra s w u v L' L'' P' P''
-        judged = go (subst (LinkScanned extra s k u v L' L'' P' P'') z l)
+        judged = go l
           where
-            go : {d : Cursor} {x : ℕ} → LinkScanned extra s k u v L' L'' P' P'' (Whole d x)
+            go : {d : Cursor} {x : ℕ} → LinkScanned extra s k u v L' L'' P' P'' (Ok (d, x))
                 → (w : WholeLink extra s k d.at.0 x) × ReferenceAt s k w.close × LinkNoted extra s w u v L' L'' P' P''
             go (a_link w y h) = (w, y, h)
 
@@ -147,7 +139,7 @@ module _ {extra : Extra} {s : List ℕ} where
         more_links : n.links + 1 ≡ suc (length b.links)
         more_links = add-one n.links ∙ ap suc b.link_count
 
-        pub link_ended : length s ≤ d.at.0 → HeaderScanned extra s L L'' P P'' (Counted (one_link_more n x))
+        pub link_ended : length s ≤ d.at.0 → HeaderScanned extra s L L'' P P'' (Ok (one_link_more n x))
         link_ended h =
             counts extra s (link_of whole ∷ b.links) (link_last whole begun h) (reference, b.references) more_links
             (kept_with whole begun b.param_count)

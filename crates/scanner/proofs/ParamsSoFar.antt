@@ -4,11 +4,10 @@ use native.Mathlib.Omega.{arith}
 use native.Mathlib.Numerals.{add-one}
 use mathlib.Core.Path.{◌≡◌, refl, sym, subst, ◌∙◌}
 use mathlib.Core.Logic.{◌⊎◌}
-use mathlib.Core.Bool.{Bool, true, false, cond, not}
+use mathlib.Core.Bool.{Bool, false, cond}
 use mathlib.Core.List.{List, [], ◌∷◌, map, reverse}
 use lib.ListN.{length, length-reverse}
 use lib.Seq.{slice}
-use borrow.Author.Tests.{not-true}
 use Rattle.octets.specs.Sets.{is_blank}
 use Rattle.octets.specs.Fold.{folded}
 use Rattle.grammar.specs.Link.{Param}
@@ -24,13 +23,11 @@ use Rattle.cursor.specs.declared.Cursor.{Cursor}
 use Rattle.names.specs.declared.Seen.{Seen}
 use Rattle.names.specs.Remembers.{Remembers, none_seen, has_code, with_code}
 use Rattle.names.proofs.Seeing.{nothing_seen, has_told, seen_with}
-use Rattle.scan_parts.specs.declared.ParamScan.{ParamScan}
-use Rattle.scan_parts.specs.declared.ParamScan.TheVariants.{NoParam, Param as AParam}
 use Rattle.scan_parts.specs.Stands.{Stands}
 use Rattle.scan_parts.specs.Scanned.{ParamScanned, no_param, a_param}
 use Rattle.scan_parts.proofs.Standing.{stands_run}
 use Rattle.scan_parts.proofs.ReadyBehindParam.{parsed_forward, parsed_name}
-use Rattle.scanner.specs.declared.link.LinkScan.TheVariants.{NoLink, Whole}
+use Rattle.std.specs.Prelude.{Ok, Err}
 use Rattle.scanner.specs.Linked.{Chain, no_params, one_more, ParamsScanned, no_params_here, all_params}
 use Rattle.scanner.proofs.KeptMore.{is_again, kept_more, keep_fewer}
 use Rattle.scanner.proofs.NotedInOrder.{KeptNoted}
@@ -58,56 +55,45 @@ module _ {extra : Extra} {s : List ℕ} where
   unfolding name_of
   told r g c h = has_told g.seen (name_of s (to_param r)) c h
 
-  pub more : {a i j k e n m c : ℕ} {x y : Seen} {b : Bool} {r : ParamParts} {d : Cursor} {u : ParamScan} {qs : List Param}
-      → ParamsSoFar extra s a i n x qs → Passed is_blank s i j → At s j 59 → k ≡ j + 1 → Passed is_blank s k e → ParamScanned extra s e u → u ≡ AParam r d
+  pub more : {a i j k e n m c : ℕ} {x y : Seen} {b : Bool} {r : ParamParts} {d : Cursor} {qs : List Param}
+      → ParamsSoFar extra s a i n x qs → Passed is_blank s i j → At s j 59 → k ≡ j + 1 → Passed is_blank s k e → ParamScanned extra s e (Ok (r, d))
       → c ≡ code_of (folded (slice r.name.from.0 r.name.to.0 s)) → b ≡ has_code x c → m ≡ n + cond b 0 1
       → y ≡ with_code x c → ParamsSoFar extra s a d.at.0 m y (to_param r ∷ qs)
   unfolding name_of
-  more {a} {j = j} {e = e} {n = n} {m = m} {x = x} {y = y} {b = b} {r = r} {d = d} {qs = qs} g w q l v u z c h f o =
-      go (subst (ParamScanned extra s e) z u)
-    where
-      go : ParamScanned extra s e (AParam r d) → ParamsSoFar extra s a d.at.0 m y (to_param r ∷ qs)
-      go (a_param p) =
-          record {
-            chain = one_more g.chain w q (subst (λ (t : ℕ). Passed is_blank s t e) (l ∙ add-one j) v) p;
-            inside = (parsed_forward p).1;
-            kept = kept_more s (to_param r) qs g.kept (told r g c h) f;
-            seen = seen_with g.seen (name_of s (to_param r)) c o;
-          }
+  more {j = j} {e = e} {r = r} {qs = qs} g w q l v (a_param p) c h f o =
+      record {
+        chain = one_more g.chain w q (subst (λ (t : ℕ). Passed is_blank s t e) (l ∙ add-one j) v) p;
+        inside = (parsed_forward p).1;
+        kept = kept_more s (to_param r) qs g.kept (told r g c h) f;
+        seen = seen_with g.seen (name_of s (to_param r)) c o;
+      }
 
   -- what was passed lies in the text, and the name too
-  pub param_inside : {e : ℕ} {r : ParamParts} {d : Cursor} {u : ParamScan} → ParamScanned extra s e u → u ≡ AParam r d
+  pub param_inside : {e : ℕ} {r : ParamParts} {d : Cursor} → ParamScanned extra s e (Ok (r, d))
       → (e < d.at.0) × (d.at.0 ≤ length s) × InText s r.name.from.0 r.name.to.0
-  param_inside {e} {r} {d} u z = go (subst (ParamScanned extra s e) z u)
-    where
-      go : ParamScanned extra s e (AParam r d)
-          → (e < d.at.0) × (d.at.0 ≤ length s) × InText s r.name.from.0 r.name.to.0
-      go (a_param p) = ((parsed_forward p).0, (parsed_forward p).1, parsed_name p)
+  param_inside (a_param p) = ((parsed_forward p).0, (parsed_forward p).1, parsed_name p)
 
   pub params_ended : {a i n m : ℕ} {P P' : List ℕ} {x : Seen} {qs : List Param} {c : Cursor} → ParamsSoFar extra s a i n x qs → KeptNoted s m qs P P'
-      → Passed is_blank s i c.at.0 → (length s ≤ c.at.0) ⊎ At s c.at.0 44 → ParamsScanned extra s a m P P' (Whole c n)
+      → Passed is_blank s i c.at.0 → (length s ≤ c.at.0) ⊎ At s c.at.0 44 → ParamsScanned extra s a m P P' (Ok (c, n))
   params_ended g k b e =
       all_params
       (record { params = _; end = _; chain = g.chain; blanks = b; ends = e; kept = g.kept })
       k
 
-  pub neither : {a i j n m : ℕ} {P P' : List ℕ} {x : Seen} {qs : List Param} {p q : Bool} → ParamsSoFar extra s a i n x qs → Passed is_blank s i j → j < length s → Looked s j 44 p
-      → p ≡ false → Looked s j 59 q → not q ≡ true → ParamsScanned extra s a m P P' (NoLink (record { 0 = j }))
-  neither {q = q} g b h l e k f =
+  pub neither : {a i j n m : ℕ} {P P' : List ℕ} {x : Seen} {qs : List Param} → ParamsSoFar extra s a i n x qs → Passed is_blank s i j → j < length s → Looked s j 44 false
+      → Looked s j 59 false → ParamsScanned extra s a m P P' (Err (record { 0 = j }))
+  neither g b h l k =
       no_params_here
       (λ ls c d r x y.
-      ready_halts (ready_blanks (chain_ready ls c d g.chain r) b.run) h (b.stops h) (k.not (not-true q f) h)
-      (l.not e h) (x, y))
+      ready_halts (ready_blanks (chain_ready ls c d g.chain r) b.run) h (b.stops h) (k.not refl h)
+      (l.not refl h) (x, y))
 
-  pub param_stuck : {a i j k e n m : ℕ} {P P' : List ℕ} {x : Seen} {qs : List Param} {p : Place} {u : ParamScan} → ParamsSoFar extra s a i n x qs → Passed is_blank s i j → At s j 59
-      → k ≡ j + 1 → Passed is_blank s k e → ParamScanned extra s e u → u ≡ NoParam p → ParamsScanned extra s a m P P' (NoLink p)
-  param_stuck {a} {j = j} {e = e} {m = m} {P = P} {P' = P'} {qs = qs} g w q l v u z = go (subst (ParamScanned extra s e) z u)
-    where
-      go : {p : Place} → ParamScanned extra s e (NoParam p) → ParamsScanned extra s a m P P' (NoLink p)
-      go (no_param f) =
-          no_params_here
-          (λ ls c d r x y.
-          f (holding ls c d qs)
-          (stands_run (λ i x y. rw y) v.run
-          (subst (Stands extra s (semi (holding ls c d qs))) (sym (l ∙ add-one j))
-          (ready_semi (ready_blanks (chain_ready ls c d g.chain r) w.run) q))) (x, y))
+  pub param_stuck : {a i j k e n m : ℕ} {P P' : List ℕ} {x : Seen} {qs : List Param} {p : Place} → ParamsSoFar extra s a i n x qs → Passed is_blank s i j → At s j 59
+      → k ≡ j + 1 → Passed is_blank s k e → ParamScanned extra s e (Err p) → ParamsScanned extra s a m P P' (Err p)
+  param_stuck {j = j} {qs = qs} g w q l v (no_param f) =
+      no_params_here
+      (λ ls c d r x y.
+      f (holding ls c d qs)
+      (stands_run (λ i x y. rw y) v.run
+      (subst (Stands extra s (semi (holding ls c d qs))) (sym (l ∙ add-one j))
+      (ready_semi (ready_blanks (chain_ready ls c d g.chain r) w.run) q))) (x, y))

@@ -2,20 +2,18 @@
 use Prim.Native.Nat.{ℕ, suc, ◌+◌, ◌*◌, ◌≤◌, ◌<◌}
 use native.Mathlib.Omega.{arith}
 use native.Mathlib.Numerals.{add-one}
-use mathlib.Core.Path.{◌≡◌, sym, subst, ◌∙◌}
+use mathlib.Core.Path.{◌≡◌, subst, ◌∙◌}
 use mathlib.Core.List.{List, [], ◌∷◌, reverse}
 use lib.ListN.{length}
 use Rattle.octets.specs.Sets.{is_target}
 use Rattle.grammar.specs.Link.{Link}
 use Rattle.grammar.specs.Grammar.{Extra, At, Target}
-use Rattle.grammar.specs.Machine.{target, after, close, opened}
+use Rattle.grammar.specs.Machine.{target, after, opened}
 use Rattle.grammar.specs.Records.{link_width}
 use Rattle.tables.proofs.Texts.{target_le}
 use Rattle.kinds.specs.declared.Place.{Place}
 use Rattle.kinds.specs.declared.Span.{Span}
 use Rattle.cursor.specs.declared.Cursor.{Cursor}
-use Rattle.scan_parts.specs.declared.Scan.{Scan}
-use Rattle.scan_parts.specs.declared.Scan.TheVariants.{Stuck, Past}
 use Rattle.scan_parts.specs.Stands.{Stands, Ready}
 use Rattle.scan_parts.specs.Scanned.{ReferenceScanned, no_reference, a_reference}
 use Rattle.scan_parts.proofs.Standing.{stands_on}
@@ -23,22 +21,15 @@ use Rattle.scan_parts.proofs.TargetSoFar.{target_stands}
 use Rattle.scan_parts.proofs.ReadyBehindValue.{ready_after}
 use Rattle.scan_parts.proofs.PassedIsParsed.{FromTo}
 use Rattle.notes.specs.Noted.{Noted}
-use Rattle.scanner.specs.declared.link.LinkScan.{LinkScan}
-use Rattle.scanner.specs.declared.link.LinkScan.TheVariants.{NoLink, Whole}
+use Rattle.std.specs.Prelude.{Ok, Err}
 use Rattle.scanner.specs.Linked.{ParamsScanned, no_params_here, all_params, WholeLink, LinkScanned, no_link, a_link}
 use Rattle.scanner.proofs.ReadyBehindParams.{holding, params_forward, ready_blanks, chain_ready}
 
-pub target_inside : {s : List ℕ} {a : ℕ} {c : Cursor} {r : Scan} → ReferenceScanned s a r → r ≡ Past c → c.at.0 < length s
-target_inside {s} {a} t e = go (subst (ReferenceScanned s a) e t)
-  where
-    go : {c : Cursor} → ReferenceScanned s a (Past c) → c.at.0 < length s
-    go (a_reference t y q) = q.inside
+pub target_inside : {s : List ℕ} {a : ℕ} {c : Cursor} → ReferenceScanned s a (Ok c) → c.at.0 < length s
+target_inside (a_reference t y q) = q.inside
 
-pub target_forward : {s : List ℕ} {a : ℕ} {c : Cursor} {r : Scan} → ReferenceScanned s a r → r ≡ Past c → a ≤ c.at.0
-target_forward {s} {a} t e = go (subst (ReferenceScanned s a) e t)
-  where
-    go : {c : Cursor} → ReferenceScanned s a (Past c) → a ≤ c.at.0
-    go (a_reference t y q) = target_le s t
+pub target_forward : {s : List ℕ} {a : ℕ} {c : Cursor} → ReferenceScanned s a (Ok c) → a ≤ c.at.0
+target_forward {s} (a_reference t y q) = target_le s t
 
 module _ {extra : Extra} {s : List ℕ} where
   pub after_close : {a k : ℕ} (ls : List Link) → Target s a k → At s k 62 → Stands extra s (target ls a) a
@@ -47,38 +38,29 @@ module _ {extra : Extra} {s : List ℕ} where
   after_close {a} {k} ls t q p =
       stands_on (after (opened ls a k)) (target_stands ls a t p) q.inside (rw q.is)
 
-  pub target_stuck : {a n m : ℕ} {L L' P P' : List ℕ} {p : Place} {r : Scan} → ReferenceScanned s a r → r ≡ Stuck p
-      → LinkScanned extra s a n m L L' P P' (NoLink p)
-  target_stuck {a} {n} {m} {L} {L'} {P} {P'} t e = go (subst (ReferenceScanned s a) e t)
-    where
-      go : {p : Place} → ReferenceScanned s a (Stuck p) → LinkScanned extra s a n m L L' P P' (NoLink p)
-      go (no_reference f) = no_link (λ ls p refs. f extra ls p refs)
+  pub target_stuck : {a n m : ℕ} {L L' P P' : List ℕ} {p : Place} → ReferenceScanned s a (Err p)
+      → LinkScanned extra s a n m L L' P P' (Err p)
+  target_stuck (no_reference f) = no_link (λ ls p refs. f extra ls p refs)
 
-  module _ {a j m : ℕ} {P P' : List ℕ} {c : Cursor} {r : Scan} {u : LinkScan} (t : ReferenceScanned s a r) (e : r ≡ Past c)
-      (k : j ≡ c.at.0 + 1) (p : ParamsScanned extra s j m P P' u) where
-    behind : ParamsScanned extra s (suc c.at.0) m P P' u
-    behind = subst (λ (i : ℕ). ParamsScanned extra s i m P P' u) (k ∙ add-one c.at.0) p
-
+  module _ {a j m : ℕ} {P P' : List ℕ} {c : Cursor} (t : ReferenceScanned s a (Ok c)) (k : j ≡ c.at.0 + 1) where
     -- the parameters are stuck
-    pub params_stuck : {n : ℕ} {L L' : List ℕ} {q : Place} → u ≡ NoLink q → LinkScanned extra s a n m L L' P P' u
-    params_stuck {n} {L} {L'} z =
-        subst (LinkScanned extra s a n m L L' P P') (sym z)
-        (go (subst (ReferenceScanned s a) e t) (subst (ParamsScanned extra s (suc c.at.0) m P P') z behind))
+    pub params_stuck : {n : ℕ} {L L' : List ℕ} {q : Place} → ParamsScanned extra s j m P P' (Err q)
+        → LinkScanned extra s a n m L L' P P' (Err q)
+    params_stuck {q = q} p = go t (subst (λ (i : ℕ). ParamsScanned extra s i m P P' (Err q)) (k ∙ add-one c.at.0) p)
       where
-        go : {c : Cursor} {q : Place} → ReferenceScanned s a (Past c) → ParamsScanned extra s (suc c.at.0) m P P' (NoLink q)
-            → LinkScanned extra s a n m L L' P P' (NoLink q)
+        go : {c : Cursor} {n : ℕ} {L L' : List ℕ} {q : Place} → ReferenceScanned s a (Ok c) → ParamsScanned extra s (suc c.at.0) m P P' (Err q)
+            → LinkScanned extra s a n m L L' P P' (Err q)
         go (a_reference {c = c} t y q) (no_params_here f) =
             no_link (λ ls p refs. f ls a c.at.0 (ready_after (after_close ls t q p)) y refs)
 
     -- the link is whole, and its record has been noted
-    pub link_passed : (n : ℕ) {L L' : List ℕ} {d : Cursor} {x : ℕ} {b : Span} → u ≡ Whole d x → FromTo b a c.at.0
-        → Noted L L' (link_width * n) (b.from.0 ∷ b.to.0 ∷ m ∷ x ∷ []) → LinkScanned extra s a n m L L' P P' (Whole d x)
-    link_passed n {L} {L'} {x = x} z f h =
-        go (subst (ReferenceScanned s a) e t) (subst (ParamsScanned extra s (suc c.at.0) m P P') z behind)
-        (rw (f.0, f.1) at h)
+    pub link_passed : (n : ℕ) {L L' : List ℕ} {d : Cursor} {x : ℕ} {b : Span} → ParamsScanned extra s j m P P' (Ok (d, x)) → FromTo b a c.at.0
+        → Noted L L' (link_width * n) (b.from.0 ∷ b.to.0 ∷ m ∷ x ∷ []) → LinkScanned extra s a n m L L' P P' (Ok (d, x))
+    link_passed n {d = d} {x = x} p f h =
+        go t (subst (λ (i : ℕ). ParamsScanned extra s i m P P' (Ok (d, x))) (k ∙ add-one c.at.0) p) (rw (f.0, f.1) at h)
       where
-        go : {c d : Cursor} {x : ℕ} → ReferenceScanned s a (Past c) → ParamsScanned extra s (suc c.at.0) m P P' (Whole d x)
-            → Noted L L' (link_width * n) (a ∷ c.at.0 ∷ m ∷ x ∷ []) → LinkScanned extra s a n m L L' P P' (Whole d x)
+        go : {c d : Cursor} {x n : ℕ} {L L' : List ℕ} → ReferenceScanned s a (Ok c) → ParamsScanned extra s (suc c.at.0) m P P' (Ok (d, x))
+            → Noted L L' (link_width * n) (a ∷ c.at.0 ∷ m ∷ x ∷ []) → LinkScanned extra s a n m L L' P P' (Ok (d, x))
         go (a_reference t y q) (all_params w k) h =
             a_link (record { close = _; target = t; closed = q; rest = w }) y (record { link = h; params = k })
 

@@ -1,7 +1,6 @@
 // A link, behind its `<`.
 ghost use Rattle.std.specs.Prelude.{◌≡◌, cond, ◌+◌, ◌^◌, ◌≤◌, ◌<◌, length};
 ghost use Rattle.octets.specs.Editions.{further};
-ghost use Rattle.octet_classes.specs.Classes.{Classes};
 ghost use Rattle.scanner.specs.Linked.{ParamsScanned, LinkScanned};
 
 use cursor::Cursor;
@@ -12,14 +11,6 @@ use octets::editions::Edition;
 use records::{LinkRecord, ParamRecord};
 use scan_parts::param::past_param;
 use scan_parts::target::past_target;
-use scan_parts::{ParamScan, Scan};
-
-// A link's cursor behind its parameters, at a comma or the end, and how many of them are kept.
-#[derive(Clone, Copy)]
-pub enum LinkScan {
-    NoLink(Place),
-    Whole(Cursor, usize),
-}
 
 // One more is kept, unless its name stood before.
 fn counted(kept: usize, again: bool) -> usize
@@ -32,53 +23,46 @@ fn counted(kept: usize, again: bool) -> usize
     kept + 1
 }
 
-// The parameters behind a link's `>`, up to a comma or the end. Those kept are noted, from number m on.
+// The parameters behind a link's `>`, up to a comma or the end. Those kept are noted, from number m on. The answer is the cursor behind
+// them, at the comma or the end, and how many of them are kept; or the place at which the header is malformed.
 fn past_params(
-    classes: &[u8; 256],
     edition: Edition,
     s: &[u8],
     from: Cursor,
     notes: &mut [u16],
     m: ParamNumber,
-) -> LinkScan
-    requires { (from.at.0 ≤ length s.now) × (m.0 ≤ from.at.0) × Classes classes.now }
+) -> Result<(Cursor, usize), Place>
+    requires { (from.at.0 ≤ length s.now) × (m.0 ≤ from.at.0) }
     ensures { ParamsScanned (further edition) s.now from.at.0 m.0 notes.old notes.new result }
 {
     let mut c = from;
     let mut kept: usize = 0;
     let mut seen = Seen::none();
     loop {
-        let i = c.past_blanks(classes, s);
+        let i = c.past_blanks(s);
         if i.at.0 >= s.len() {
-            return LinkScan::Whole(i, kept);
+            return Ok((i, kept));
         }
         if i.sees(s, b',') {
-            return LinkScan::Whole(i, kept);
+            return Ok((i, kept));
         }
         if !i.sees(s, b';') {
-            let at = i.at;
-            return LinkScan::NoLink(at);
+            return Err(i.at);
         }
-        match past_param(classes, edition, s, i.past_octet(s).past_blanks(classes, s)) {
-            ParamScan::NoParam(p) => {
-                return LinkScan::NoLink(p);
-            }
-            ParamScan::Param(parts, d) => {
-                let name = parts.name;
-                let code = names::code(s, name);
-                let again = seen.has(code);
-                note_param(notes, m.plus(kept), ParamRecord { parts, code }, again);
-                kept = counted(kept, again);
-                seen = seen.with(code);
-                c = d;
-            }
-        }
+        let (parts, d) = past_param(edition, s, i.past_octet(s).past_blanks(s))?;
+        let name = parts.name;
+        let code = names::code(s, name);
+        let again = seen.has(code);
+        note_param(notes, m.plus(kept), ParamRecord { parts, code }, again);
+        kept = counted(kept, again);
+        seen = seen.with(code);
+        c = d;
     }
 }
 
-// A link, from its target on. It is noted as link number n, and its parameters from number m on.
+// A link, from its target on, with its parameters: the cursor behind them, and how many of them are kept. It is noted as link number n,
+// and its parameters from number m on.
 pub fn past_link(
-    classes: &[u8; 256],
     edition: Edition,
     s: &[u8],
     from: Cursor,
@@ -86,25 +70,19 @@ pub fn past_link(
     n: LinkNumber,
     params: &mut [u16],
     m: ParamNumber,
-) -> LinkScan
-    requires { (from.at.0 ≤ length s.now) × (m.0 ≤ from.at.0) × Classes classes.now }
+) -> Result<(Cursor, usize), Place>
+    requires { (from.at.0 ≤ length s.now) × (m.0 ≤ from.at.0) }
     ensures { LinkScanned (further edition) s.now from.at.0 n.0 m.0
         links.old links.new params.old params.new result }
 {
-    match past_target(classes, s, from) {
-        Scan::Stuck(p) => LinkScan::NoLink(p),
-        Scan::Past(c) => {
-            let scan = past_params(classes, edition, s, c.past_octet(s), params, m);
-            if let LinkScan::Whole(_, count) = scan {
-                let target = from.span_to(c);
-                let r = LinkRecord {
-                    target,
-                    first: m,
-                    count,
-                };
-                note_link(links, n, r);
-            }
-            scan
-        }
-    }
+    let c = past_target(s, from)?;
+    let (d, count) = past_params(edition, s, c.past_octet(s), params, m)?;
+    let target = from.span_to(c);
+    let r = LinkRecord {
+        target,
+        first: m,
+        count,
+    };
+    note_link(links, n, r);
+    Ok((d, count))
 }

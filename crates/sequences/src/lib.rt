@@ -82,7 +82,7 @@ impl Awaited {
         Awaited::tails(0)
     }
 
-    // No text goes on from here.
+    // No text goes on from here. With an Option in its place, answered by `behind`, judging a value took more time: tried and slower.
     fn impossible() -> Awaited
         ensures { result ≡ impossible }
     {

@@ -11,7 +11,6 @@ ghost use Rattle.tables.specs.Good.{InText, GoodParam};
 ghost use Rattle.tables.specs.Meaning.{value_of};
 ghost use Rattle.tables.specs.Written.{is_token_text, written_value};
 ghost use Rattle.values.specs.Rest.{rest};
-ghost use Rattle.octet_classes.specs.Classes.{Classes};
 ghost use Rattle.shape.specs.Shape.{escaped_len, len_for};
 
 use kinds::Span;
@@ -40,17 +39,17 @@ fn dropped_before(c: u8) -> usize
 }
 
 // How many octets the inside of a quoted string takes, once written: those of its span, less the backslashes that are dropped.
-fn quoted_len(classes: &[u8; 256], s: &[u8], part: Span) -> usize
+fn quoted_len(s: &[u8], part: Span) -> usize
     requires in_text { InText s.now part.from.0 part.to.0 }
     requires inside { Inside s.now part.from.0 part.to.0 }
     requires s_len_bound { length s.now ≤ limit }
-    requires classes { Classes classes.now }
     ensures { result ≡ length (written_value (rest s.now part.to.0 part.from.0)) }
 {
     let e = part.to;
     let mut dropped = 0;
     let mut tokens = true;
     let mut k = part.from;
+    // A turn passes one octet, or a backslash and the octet behind it, so no `for` fits.
     while k.0 < e.0 {
         let h = k.0;
         let c = s[h];
@@ -59,11 +58,11 @@ fn quoted_len(classes: &[u8; 256], s: &[u8], part: Span) -> usize
             let i = p.0;
             let d = s[i];
             dropped += dropped_before(d);
-            tokens = tokens & is_in(classes, Set::Token, d);
+            tokens = tokens & is_in(Set::Token, d);
             k = p.next();
             continue;
         }
-        tokens = tokens & is_in(classes, Set::Token, c);
+        tokens = tokens & is_in(Set::Token, c);
         k = k.next();
     }
     len_for(part.len() - dropped, tokens)
@@ -71,33 +70,33 @@ fn quoted_len(classes: &[u8; 256], s: &[u8], part: Span) -> usize
 
 // How many octets a parameter's value takes. A token takes as many as it has; an empty value where there is none, and a bare one that is
 // no token, 2 more for quotes: none of them is looked at.
-pub fn value_len(classes: &[u8; 256], text: &[u8], p: ParamParts) -> usize
+pub fn value_len(text: &[u8], p: ParamParts) -> usize
     requires good_param { GoodParam (further Rfc5988) text.now (to_param p) }
     requires text_len_bound { length text.now ≤ limit }
-    requires classes { Classes classes.now }
     ensures { result ≡ length (written_value (value_of text.now (to_param p))) }
 {
     if p.form == TOKEN {
         return p.value.len();
     }
     if p.form == QUOTED {
-        return quoted_len(classes, text, p.value);
+        return quoted_len(text, p.value);
     }
     p.value.len() + 2
 }
 
 // Whether what the part means is a token. The first octet that isn't a token's decides.
-fn means_token(classes: &[u8; 256], s: &[u8], part: Span) -> bool
-    requires { InText s.now part.from.0 part.to.0 × Classes classes.now }
+fn means_token(s: &[u8], part: Span) -> bool
+    requires { InText s.now part.from.0 part.to.0 }
     ensures { result ≡ is_token_text (rest s.now part.to.0 part.from.0) }
 {
     let a = part.from;
     let e = part.to;
     let mut k = a;
+    // A turn passes one octet, or a backslash and the octet behind it, so no `for` fits.
     while k.0 < e.0 {
         let h = k.0;
         let c = s[h];
-        if is_in(classes, Set::Token, c) {
+        if is_in(Set::Token, c) {
             k = k.next();
             continue;
         }
@@ -109,7 +108,7 @@ fn means_token(classes: &[u8; 256], s: &[u8], part: Span) -> bool
             return k.0 > a.0;
         }
         let i = p.0;
-        if !is_in(classes, Set::Token, s[i]) {
+        if !is_in(Set::Token, s[i]) {
             return false;
         }
         k = p.next();
@@ -118,12 +117,12 @@ fn means_token(classes: &[u8; 256], s: &[u8], part: Span) -> bool
 }
 
 // Whether a parameter's value stands bare.
-pub fn is_bare(classes: &[u8; 256], text: &[u8], p: ParamParts) -> bool
-    requires { GoodParam (further Rfc5988) text.now (to_param p) × Classes classes.now }
+pub fn is_bare(text: &[u8], p: ParamParts) -> bool
+    requires { GoodParam (further Rfc5988) text.now (to_param p) }
     ensures { result ≡ is_token_text (value_of text.now (to_param p)) }
 {
     if p.form == TOKEN {
         return true;
     }
-    means_token(classes, text, p.value)
+    means_token(text, p.value)
 }

@@ -15,7 +15,9 @@ use Rattle.accepting.specs.Accepted.{Accepted}
 use Rattle.catalogue_check.specs.Checked.{tables}
 use Rattle.catalogues.proofs.Packing.{pack_there, each_at}
 use Rattle.catalogue_check.proofs.Adding.{uri_part, value_part}
-use Rattle.target_steps.specs.declared.Stepped.{Stepped}
+use Rattle.std.specs.Prelude.{Result}
+use Rattle.kinds.specs.declared.PackNumber.{PackNumber}
+use Rattle.answers.specs.declared.walk_answer.End.{End}
 use Rattle.target_steps.specs.Stepped.{Listed, Stands, step_out}
 use Rattle.stepping.specs.Known.{Known, KnownPacks, StepsOn, StepsFrom}
 
@@ -67,7 +69,7 @@ module _ {s X : List ℕ} {n l p : ℕ} (k : KnownPacks s X n l p) {i : ℕ} (h 
         param_room = q.right.param_room;
       })
 
-  pub steps_from : (q : List ℕ) (r : Stepped)
+  pub steps_from : (q : List ℕ) (r : Result PackNumber End)
       → StepsOn s X n (take (x.tab.0 - x.from.0) (drop x.from.0 s)) (take (x.end.0 - (x.tab.0 + 1)) (drop (x.tab.0 + 1) s)) q r
       → StepsFrom s X n l p q i r
   steps_from q r f ps known =

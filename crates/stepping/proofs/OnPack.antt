@@ -24,17 +24,16 @@ use Rattle.outcomes.specs.Read.{ReadOut, ReadIn, too_long, not_derived, no_link_
 use Rattle.kinds.specs.declared.Counts.{Counts}
 use Rattle.kinds.specs.declared.Span.{Span}
 use Rattle.answers.specs.Read.{read_numbers, read_out}
-use Rattle.answers.specs.declared.read_answer.ReadAnswer.{ReadAnswer}
-use Rattle.answers.specs.declared.read_answer.ReadAnswer.TheVariants.{Done}
+use Rattle.answers.specs.declared.read_answer.ReadError.{ReadError}
 use Rattle.answers.specs.declared.walk_answer.End.TheVariants.{NoLink}
 use Rattle.catalogues.specs.Packs.{Pack}
 use Rattle.catalogues.specs.Steps.{first_link, along, to_target}
 use Rattle.following.specs.Followed.{IsFollowed, nowhere, target}
-use Rattle.following.specs.declared.Followed.{Followed}
-use Rattle.following.specs.declared.Followed.TheVariants.{Target, Nowhere}
+use Rattle.std.specs.Prelude.{Some, None, Result, Ok, Err}
+use Rattle.std.specs.Prelude as std
 use Rattle.resolution.specs.Resolve.{resolved}
-use Rattle.target_steps.specs.declared.Stepped.{Stepped}
-use Rattle.target_steps.specs.declared.Stepped.TheVariants.{Stop}
+use Rattle.kinds.specs.declared.PackNumber.{PackNumber}
+use Rattle.answers.specs.declared.walk_answer.End.{End}
 use Rattle.target_steps.specs.Stepped.{within, step_out, LeadsTo}
 use Rattle.stepping.specs.Known.{TableRead, StepsOn}
 
@@ -53,10 +52,10 @@ read_table_lem {v} {L} {P} (reads {K = K} a b c d) e =
       usable = record { short = a; good = good_alike Rfc8288 _ t.good };
     }
 
-pub done_table : {v L P L' P' : List ℕ} {r : ReadAnswer} {n : Counts} → ReadIn Rfc8288 v L P (read_out (read_numbers r) L' P') → r ≡ Done n
+pub done_table : {v L P L' P' : List ℕ} {r : Result Counts ReadError} {n : Counts} → ReadIn Rfc8288 v L P (read_out (read_numbers r) L' P') → r ≡ Ok n
     → TableRead v L' P' n.links n.params
 done_table {v} {L} {P} {L'} {P'} h e =
-    read_table_lem (subst (λ (y : ReadAnswer). ReadIn Rfc8288 v L P (read_out (read_numbers y) L' P')) e h) refl
+    read_table_lem (subst (λ (y : Result Counts ReadError). ReadIn Rfc8288 v L P (read_out (read_numbers y) L' P')) e h) refl
 
 -- ---- the link that is followed
 
@@ -68,7 +67,7 @@ pub record FollowedAt (t : Table) (q : List ℕ) (sp : Span) : Type 0 where
   pub inside : InText t.text sp.from.0 sp.to.0
   pub reference : ReferenceAt t.text sp.from.0 sp.to.0
 
-pub target_told : {t : Table} {q : List ℕ} {r : Followed} {sp : Span} → IsFollowed t q r → r ≡ Target sp → FollowedAt t q sp
+pub target_told : {t : Table} {q : List ℕ} {r : std.Option Span} {sp : Span} → IsFollowed t q r → r ≡ Some sp → FollowedAt t q sp
 target_told (nowhere h) e = let z : ◌≡◌ {A = ℕ} 0 1 = cc in absurd (omega arith)
 target_told {t} {q} {sp = sp} (target {l = l} h i r) e =
     let same : record { from = record { 0 = l.target_from }; to = record { 0 = l.target_to } } ≡ sp = cc in
@@ -81,7 +80,7 @@ target_told {t} {q} {sp = sp} (target {l = l} h i r) e =
       reference = subst (λ (x : Span). ReferenceAt t.text x.from.0 x.to.0) same r;
     }
 
-pub nowhere_told : {t : Table} {q : List ℕ} {r : Followed} → IsFollowed t q r → r ≡ Nowhere → first_link t.text q (links_of t) ≡ none
+pub nowhere_told : {t : Table} {q : List ℕ} {r : std.Option Span} → IsFollowed t q r → r ≡ None → first_link t.text q (links_of t) ≡ none
 nowhere_told (nowhere h) e = h
 nowhere_told (target h i r) e = let z : ◌≡◌ {A = ℕ} 0 1 = cc in absurd (omega arith)
 
@@ -92,11 +91,11 @@ module _ (s X : List ℕ) (n : ℕ) (u v q : List ℕ) {L P : List ℕ} {k m : �
   same_links : (K : List Link) → Reading (further Rfc8288) v K → K ≡ links_of (table_of v L P k m)
   same_links K r = one_reading (further Rfc8288) (apart Rfc8288) v K (links_of (table_of v L P k m)) r t.reading
 
-  pub no_link_on : first_link v q (links_of (table_of v L P k m)) ≡ none → StepsOn s X n u v q (Stop NoLink)
+  pub no_link_on : first_link v q (links_of (table_of v L P k m)) ≡ none → StepsOn s X n u v q (Err NoLink)
   no_link_on e ps l K r =
       ap (along ps (record { uri = u; value = v; links = K })) (ap (first_link v q) (same_links K r) ∙ e)
 
-  pub target_on_lem : (r : Stepped) {sp : Span} (f : FollowedAt (table_of v L P k m) q sp)
+  pub target_on_lem : (r : Result PackNumber End) {sp : Span} (f : FollowedAt (table_of v L P k m) q sp)
       → LeadsTo s X n u v sp.from.0 sp.to.0 r → StepsOn s X n u v q r
   target_on_lem x {sp} f h ps l K r =
       ap (along ps (record { uri = u; value = v; links = K })) (ap (first_link v q) (same_links K r) ∙ f.first)

@@ -1,5 +1,5 @@
 -- A step from a pack, and packs that are known.
-use Rattle.std.specs.Prelude.{ℕ, ◌≡◌, List}
+use Rattle.std.specs.Prelude.{ℕ, ◌≡◌, List, Result}
 use Rattle.octets.specs.Editions.{further}
 use Rattle.octets.specs.declared.editions.Edition.TheVariants.{Rfc8288, Rfc5988}
 use Rattle.grammar.specs.Link.{Link}
@@ -11,7 +11,8 @@ use Rattle.catalogues.specs.Packs.{Pack, RightPack}
 use Rattle.catalogues.specs.Steps.{step_of, step_from}
 use Rattle.catalogue_check.specs.Checked.{tables}
 use Rattle.target_steps.specs.Stepped.{step_out, Listed}
-use Rattle.target_steps.specs.declared.Stepped.{Stepped}
+use Rattle.kinds.specs.declared.PackNumber.{PackNumber}
+use Rattle.answers.specs.declared.walk_answer.End.{End}
 
 -- the tables hold what the Link value v reads to
 pub record TableRead (v L P : List ℕ) (n m : ℕ) : Type 0 where
@@ -19,7 +20,7 @@ pub record TableRead (v L P : List ℕ) (n m : ℕ) : Type 0 where
   pub usable : Usable Rfc5988 (table_of v L P n m)
 
 -- a step by the relation q from a pack with the URI u and the Link value v leads to what the answer tells
-abbrev pub StepsOn : List ℕ → List ℕ → ℕ → List ℕ → List ℕ → List ℕ → Stepped → Type 0
+abbrev pub StepsOn : List ℕ → List ℕ → ℕ → List ℕ → List ℕ → List ℕ → Result PackNumber End → Type 0
 StepsOn s X n u v q r =
     (ps : List Pack) → Listed s X n ps → (K : List Link) → Reading (further Rfc8288) v K
     → step_of ps q (record { uri = u; value = v; links = K }) ≡ step_out r
@@ -34,5 +35,5 @@ abbrev pub KnownPacks : List ℕ → List ℕ → ℕ → ℕ → ℕ → Type 0
 KnownPacks s X n l p = (ps : List Pack) × Known s X n l p ps
 
 -- a step by the relation q from pack number i leads to what the answer tells
-abbrev pub StepsFrom : List ℕ → List ℕ → ℕ → ℕ → ℕ → List ℕ → ℕ → Stepped → Type 0
+abbrev pub StepsFrom : List ℕ → List ℕ → ℕ → ℕ → ℕ → List ℕ → ℕ → Result PackNumber End → Type 0
 StepsFrom s X n l p q i r = (ps : List Pack) → Known s X n l p ps → step_from ps q i ≡ step_out r

@@ -4,7 +4,6 @@
 
 ghost use Rattle.std.specs.Prelude.{◌≡◌, [], ◌∷◌, ◌≤◌, ◌<◌, length};
 ghost use Rattle.octets.specs.declared.editions.Edition.TheVariants.{Rfc5988};
-ghost use Rattle.tables.specs.Table.{table_of};
 ghost use Rattle.references.proofs.Clear.{Free};
 ghost use Rattle.outcomes.specs.Number.{limit};
 ghost use Rattle.outcomes.specs.Usable.{Usable};
@@ -13,53 +12,50 @@ ghost use Rattle.paces.specs.Paces.{relation_on};
 ghost use Rattle.accepting.specs.Accepted.{Accepted};
 ghost use Rattle.target_steps.specs.Stepped.{Stands};
 ghost use Rattle.stepping.specs.Known.{TableRead, StepsOn, KnownPacks, StepsFrom};
+ghost use Rattle.lent.specs.Lent.{lent};
 
-use answers::read_answer::ReadAnswer;
 use answers::walk_answer::End;
-use following::{Followed, first_followed};
-use kinds::{Counts, PackNumber};
+use following::first_followed;
+use kinds::{PackNumber, Span};
+use lent::Table;
 use octets::editions::Edition;
 use paces::Way;
 use pack_index::places_at;
-use target_steps::{Stepped, target_pack};
+use target_steps::target_pack;
 
-// The link followed that way.
-fn followed(text: &[u8], links: &[usize], params: &[usize], counts: Counts, way: Way) -> Followed
-    requires { Usable Rfc5988 (table_of text.now links.now params.now counts.links counts.params) }
-    ensures { IsFollowed (table_of text.now links.now params.now counts.links counts.params)
+// Where the target of the link followed that way stands, or none if no link is.
+fn followed(t: &Table, way: Way) -> Option<Span>
+    requires { Usable Rfc5988 (lent t.now) }
+    ensures { IsFollowed (lent t.now)
         (relation_on way) result }
 {
     match way {
-        Way::Next => first_followed(text, links, params, counts, b"next"),
-        Way::Prev => first_followed(text, links, params, counts, b"prev"),
+        Way::Next => first_followed(t, b"next"),
+        Way::Prev => first_followed(t, b"prev"),
     }
 }
 
-// A step that way from a pack whose Link value was read into these tables.
+// The pack that a step that way leads to, or why it leads to none: from a pack whose Link value was read into these tables.
 fn step_along(
     s: &[u8],
     index: &[usize],
     count: usize,
     uri: &[u8],
-    value: &[u8],
+    t: &Table,
     way: Way,
-    links: &[usize],
-    params: &[usize],
-    counts: Counts,
     work: &mut [u8],
-) -> Stepped
+) -> Result<PackNumber, End>
     requires stands { Stands s.now index.now count × Free (92 ∷ []) uri.now × (limit ≤ length work.old) }
-    requires table_read { TableRead value.now links.now params.now counts.links counts.params }
-    ensures { StepsOn s.now index.now count uri.now value.now (relation_on way) result }
+    requires table_read { TableRead t.now.text.now t.now.links.now t.now.params.now t.now.counts.links t.now.counts.params }
+    ensures { StepsOn s.now index.now count uri.now t.now.text.now (relation_on way) result }
 {
-    let link = followed(value, links, params, counts, way);
-    match link {
-        Followed::Nowhere => Stepped::Stop(End::NoLink),
-        Followed::Target(target) => target_pack(s, index, count, uri, value, target, work),
-    }
+    let Some(target) = followed(t, way) else {
+        return Err(End::NoLink);
+    };
+    target_pack(s, index, count, uri, t.text, target, work)
 }
 
-// A step that way from the pack that has this URI and this Link value.
+// The same, from the pack that has this URI and this Link value.
 fn step_on(
     s: &[u8],
     index: &[usize],
@@ -70,24 +66,27 @@ fn step_on(
     links: &mut [usize],
     params: &mut [usize],
     work: &mut [u8],
-) -> Stepped
+) -> Result<PackNumber, End>
     requires stands { Stands s.now index.now count × Free (92 ∷ []) uri.now × (limit ≤ length work.old) }
     requires accepted { Accepted value.now (length links.old) (length params.old) }
     ensures { StepsOn s.now index.now count uri.now value.now (relation_on way) result }
 {
     let answer = reader::read_in(Edition::Rfc8288, value, links, params);
     match answer {
-        ReadAnswer::Malformed(_) => Stepped::Stop(End::NoLink),
-        ReadAnswer::Refused(_) => Stepped::Stop(End::NoLink),
-        ReadAnswer::Done(counts) => {
-            step_along(
-                s, index, count, uri, value, way, links, params, counts, work,
-            )
+        Err(_) => Err(End::NoLink),
+        Ok(counts) => {
+            let t = Table {
+                text: value,
+                links,
+                params,
+                counts,
+            };
+            step_along(s, index, count, uri, &t, way, work)
         }
     }
 }
 
-// A step that way from a pack.
+// The pack that a step that way from a pack leads to, or why it leads to none.
 pub fn step(
     s: &[u8],
     index: &[usize],
@@ -97,7 +96,7 @@ pub fn step(
     links: &mut [usize],
     params: &mut [usize],
     work: &mut [u8],
-) -> Stepped
+) -> Result<PackNumber, End>
     requires { KnownPacks s.now index.now count (length links.old) (length params.old) × (pack.0 < count) × (limit ≤ length work.old) }
     ensures { StepsFrom s.now index.now count (length links.old) (length params.old) (relation_on way)
         pack.0 result }

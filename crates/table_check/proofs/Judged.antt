@@ -1,7 +1,7 @@
 -- What judging a span says of it as a target.
 use Prim.Native.Nat.{ℕ}
 use mathlib.Core.Path.{◌≡◌, sym, ◌∙◌}
-use mathlib.Core.Bool.{Bool, true, false, false≢true}
+use mathlib.Core.Bool.{Bool, false≢true}
 use mathlib.Core.List.{List}
 use lib.Seq.{slice}
 use Rattle.reference_steps.specs.Machine.{run, accepts}

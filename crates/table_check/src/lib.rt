@@ -1,60 +1,33 @@
 // What every entry over a table asks of it first.
 #![tactic(auto)]
 
-ghost use Rattle.tables.specs.Table.{table_of};
-ghost use Rattle.octet_classes.specs.Classes.{Classes};
 ghost use Rattle.table_check.specs.State.{StateIn, IsState};
+ghost use Rattle.lent.specs.Lent.{lent};
 
 use answers::{LIMIT, Refusal};
-use kinds::Counts;
-use octets::editions::{Asked, Edition, edition_of};
+use lent::Table;
+use octets::editions::{Edition, edition_of};
 
 mod links;
 
-// The table may be used, or is refused.
-#[derive(Clone, Copy)]
-pub enum TableState {
-    Usable,
-    Refused(Refusal),
-}
-
 // In an edition that is known: a text that is too long is refused first, and then a table that isn't good.
-fn state_in(
-    classes: &[u8; 256],
-    edition: Edition,
-    text: &[u8],
-    links: &[usize],
-    params: &[usize],
-    counts: Counts,
-) -> TableState
-    requires { Classes classes.now }
-    ensures { StateIn edition (table_of text.now links.now params.now counts.links counts.params) result }
+fn state_in(edition: Edition, t: &Table) -> Result<(), Refusal>
+    ensures { StateIn edition (lent t.now) result }
 {
-    if text.len() > LIMIT {
-        return TableState::Refused(Refusal::TooLong);
+    if t.text.len() > LIMIT {
+        return Err(Refusal::TooLong);
     }
-    if links::is_good(classes, edition, text, links, params, counts) {
-        TableState::Usable
-    } else {
-        TableState::Refused(Refusal::BadTable)
+    if !links::is_good(edition, t) {
+        return Err(Refusal::BadTable);
     }
+    Ok(())
 }
 
-// The number of an edition that there isn't is refused before all else.
-pub fn state_of(
-    classes: &[u8; 256],
-    edition: usize,
-    text: &[u8],
-    links: &[usize],
-    params: &[usize],
-    counts: Counts,
-) -> TableState
-    requires { Classes classes.now }
+// The table may be used, or why it is refused. The number of an edition that there isn't is refused before all else.
+pub fn state_of(edition: usize, t: &Table) -> Result<(), Refusal>
     ensures { IsState edition
-        (table_of text.now links.now params.now counts.links counts.params) result }
+        (lent t.now) result }
 {
-    match edition_of(edition) {
-        Asked::Unknown => TableState::Refused(Refusal::UnknownEdition),
-        Asked::Known(known) => state_in(classes, known, text, links, params, counts),
-    }
+    let known = edition_of(edition).ok_or(Refusal::UnknownEdition)?;
+    state_in(known, t)
 }

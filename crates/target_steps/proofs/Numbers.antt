@@ -11,8 +11,7 @@ use Rattle.kinds.specs.declared.PackNumber.{PackNumber}
 use Rattle.catalogues.specs.Packs.{Pack}
 use Rattle.catalogues.specs.Steps.{pack_at, next, number_of}
 use Rattle.pack_index.specs.Index.{places_at, uri_in, Held, FoundBy}
-use Rattle.pack_index.specs.declared.PackFound.{PackFound}
-use Rattle.pack_index.specs.declared.PackFound.TheVariants.{At, Nowhere}
+use Rattle.std.specs.Prelude.{Option, Some, None}
 use Rattle.catalogues.proofs.Packing.{pack_there}
 use Rattle.target_steps.specs.Stepped.{Listed, Stands}
 
@@ -47,13 +46,13 @@ held (ps, l) =
 tells : {s X : List ℕ} {n : ℕ} {ps : List Pack} → Listed s X n ps → (w : List ℕ) → Tells (λ j. same (uri_in s (places_at X j)) w) w ps
 tells l w j p at = ap (λ (u : List ℕ). same u w) (sym (l.indexed j p at).uri)
 
-module _ {s X : List ℕ} {n : ℕ} {ps : List Pack} (l : Listed s X n ps) (w : List ℕ) {r : PackFound} (h : FoundBy s X n w r) where
-  pub found_number : {k : PackNumber} → r ≡ At k → number_of w ps ≡ some k.0
+module _ {s X : List ℕ} {n : ℕ} {ps : List Pack} (l : Listed s X n ps) (w : List ℕ) {r : Option PackNumber} (h : FoundBy s X n w r) where
+  pub found_number : {k : PackNumber} → r ≡ Some k → number_of w ps ≡ some k.0
   found_number {k} e =
       let t = subst (FoundBy s X n w) e h in
       number_first w ps (λ j. same (uri_in s (places_at X j)) w) (tells l w) k.0 (omega (arith, t.0, l.count)) t.1 t.2
 
-  pub nowhere_number : r ≡ Nowhere → number_of w ps ≡ none
+  pub nowhere_number : r ≡ None → number_of w ps ≡ none
   nowhere_number e =
       number_none w ps (λ j. same (uri_in s (places_at X j)) w) (tells l w)
       (λ j k. subst (FoundBy s X n w) e h j (omega (arith, k, l.count)))

@@ -9,6 +9,7 @@ use lib.Dec.{leb}
 use lib.ListN.{length, take, drop, length-append}
 use lib.Seq.{slice, take-append_seam}
 use borrow.Author.Tests.{eq-eqb, eqb-false, lt-leb, le-leb}
+use Rattle.std.specs.Prelude.{Result, Ok, Err}
 use Rattle.references.specs.AppendixA.{IsReference}
 use Rattle.resolution.specs.Resolve.{resolved}
 use Rattle.outcomes.specs.Number.{limit, done}
@@ -16,8 +17,6 @@ use Rattle.outcomes.specs.Copy.{CopyOut}
 use Rattle.outcomes.specs.Resolve.{Fitted, too_long, no_room, fits}
 use Rattle.answers.specs.Length.{length_numbers, length_out}
 use Rattle.answers.specs.declared.Refusal.{Refusal}
-use Rattle.answers.specs.declared.length_answer.LengthAnswer.{LengthAnswer}
-use Rattle.answers.specs.declared.length_answer.LengthAnswer.TheVariants.{Wrote, Refused}
 use Rattle.answers.proofs.Refusals.{no_refusal_is_done}
 use Rattle.bare.specs.Bare.{bare_of}
 use Rattle.bare.proofs.Unescaped.{reference_bare}
@@ -45,14 +44,14 @@ refused (no_room s l) h n = absurd (omega (arith, h, s, l))
 refused (fits s l) h n = absurd (n refl)
 
 -- the answer, told apart
-module _ {out out' v : List ℕ} {r : LengthAnswer} (f : Fitted out v (length_out (length_numbers r) out')) where
-  told : {x : LengthAnswer} → r ≡ x → Fitted out v (length_out (length_numbers x) out')
-  told e = subst (λ (y : LengthAnswer). Fitted out v (length_out (length_numbers y) out')) e f
+module _ {out out' v : List ℕ} {r : Result ℕ Refusal} (f : Fitted out v (length_out (length_numbers r) out')) where
+  told : {x : Result ℕ Refusal} → r ≡ x → Fitted out v (length_out (length_numbers x) out')
+  told e = subst (λ (y : Result ℕ Refusal). Fitted out v (length_out (length_numbers y) out')) e f
 
-  pub wrote : {n : ℕ} → r ≡ Wrote n → Written out' v n
+  pub wrote : {n : ℕ} → r ≡ Ok n → Written out' v n
   wrote e = written (told e) refl
 
-  pub over_limit : {w : Refusal} → r ≡ Refused w → limit ≤ length out → limit < length v
+  pub over_limit : {w : Refusal} → r ≡ Err w → limit ≤ length out → limit < length v
   over_limit {w} e h = refused (told e) h (eqb-false _ _ (no_refusal_is_done w))
 
 -- for a reference, the octets without backslashes are its octets

@@ -2,7 +2,6 @@
 use Prim.Native.Nat.{ℕ, ◌≤◌}
 use native.Mathlib.Omega.{arith}
 use mathlib.Core.Path.{◌≡◌, subst}
-use mathlib.Core.Bool.{false}
 use mathlib.Core.List.{List}
 use lib.ListN.{length}
 use lib.Seq.{take_all}
@@ -11,6 +10,7 @@ use Rattle.extended.specs.Decoded.{given}
 use Rattle.outcomes.specs.Number.{limit, bad_extended_number}
 use Rattle.outcomes.specs.Copy.{CopyOut, untouched}
 use Rattle.outcomes.specs.Decode.{Decode, wrong, no_room, gives}
+use Rattle.units.specs.declared.Reading.TheVariants.{AsItStands}
 use Rattle.units.specs.Seen.{seen}
 use Rattle.decoding.specs.Measured.{octets_given}
 use Rattle.decoding.specs.Judged.{IsRight, IsWrong}
@@ -19,14 +19,14 @@ use Rattle.copy.specs.Room.{InRoom, short, enough}
 
 module _ (w : List ℕ) (h : length w ≤ limit) where
   -- as it stands
-  whole : seen false w (length w) 0 ≡ w
+  whole : seen AsItStands w (length w) 0 ≡ w
   whole = take_all (length w) w (omega arith)
 
-  pub is_wrong : (out : List ℕ) → IsWrong false w (length w) 0 → Decode w out (untouched out bad_extended_number)
+  pub is_wrong : (out : List ℕ) → IsWrong AsItStands w (length w) 0 → Decode w out (untouched out bad_extended_number)
   is_wrong out b = wrong h (subst Wrong whole b.wrong)
 
-  pub is_given_lem : {k n : ℕ} → IsRight false w (length w) 0 k n → {out : List ℕ} {o : CopyOut}
-      → InRoom out (octets_given (given (seen false w (length w) k))) o → Decode w out o
+  pub is_given_lem : {k n : ℕ} → IsRight AsItStands w (length w) 0 k n → {out : List ℕ} {o : CopyOut}
+      → InRoom out (octets_given (given (seen AsItStands w (length w) k))) o → Decode w out o
   is_given_lem {k} r {out} {o} room = go (subst (λ (v : List ℕ). InRoom out v o) (right_octets r) room)
     where
       right : Extended w r.octets

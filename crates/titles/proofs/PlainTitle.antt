@@ -2,6 +2,7 @@
 use Prim.Native.Nat.{ℕ}
 use mathlib.Core.Path.{◌≡◌, ap, ◌∙◌}
 use mathlib.Core.List.{List}
+use Rattle.std.specs.Prelude.{Option, Some, None}
 use Rattle.octets.specs.Text.{octets}
 use Rattle.octets.specs.Editions.{further}
 use Rattle.octets.specs.declared.editions.Edition.TheVariants.{Rfc5988}
@@ -14,8 +15,6 @@ use Rattle.tables.proofs.InGood.{named_each}
 use Rattle.outcomes.specs.Number.{not_found_number}
 use Rattle.outcomes.specs.Copy.{CopyOut, untouched}
 use Rattle.named.specs.First.{Listed, FirstCoded, found}
-use Rattle.named.specs.declared.Named.{Named}
-use Rattle.named.specs.declared.Named.TheVariants.{Found, Absent}
 use Rattle.named.proofs.ByName.{by_title}
 use Rattle.values.specs.Rest.{rest}
 use Rattle.values.proofs.Values.{value_meant}
@@ -23,14 +22,14 @@ use Rattle.copy.specs.Room.{InRoom}
 use Rattle.titles.specs.Plain.{Plain, no_title, meant}
 
 -- a answers what was found
-module _ {s P : List ℕ} {l : LinkRecord} (h : Listed s P l) (a : Named) (first : FirstCoded P l 4 a) where
+module _ {s P : List ℕ} {l : LinkRecord} (h : Listed s P l) (a : Option ParamParts) (first : FirstCoded P l 4 a) where
   title_found : named s (octets "title") (to_link P l).params ≡ found a
   title_found = by_title s P h ∙ first
 
-  pub no_plain : (out : List ℕ) → a ≡ Absent → Plain s P l out (untouched out not_found_number)
+  pub no_plain : (out : List ℕ) → a ≡ None → Plain s P l out (untouched out not_found_number)
   no_plain out e = no_title (title_found ∙ ap found e)
 
-  module _ {p : ParamParts} (e : a ≡ Found p) where
+  module _ {p : ParamParts} (e : a ≡ Some p) where
     good_there : GoodParam (further Rfc5988) s (to_param p)
     good_there = named_each s (octets "title") h.params (title_found ∙ ap found e)
 

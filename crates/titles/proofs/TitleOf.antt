@@ -1,10 +1,10 @@
 -- The title of link number i, once its parameters have been looked through for `title*`: the record of the link is r.
 use Prim.Native.Nat.{ℕ, ◌≤◌, ◌<◌}
 use mathlib.Core.Path.{◌≡◌, refl, sym, ap, subst, ◌∙◌}
-use mathlib.Core.Bool.{true}
 use mathlib.Core.List.{List}
 use mathlib.Core.Option.{Option, some}
 use lib.ListN.{length}
+use Rattle.std.specs.Prelude.{Option as Maybe, Some, None}
 use Rattle.octets.specs.Text.{octets}
 use Rattle.octets.specs.Editions.{further}
 use Rattle.octets.specs.declared.editions.Edition.TheVariants.{Rfc5988}
@@ -25,12 +25,11 @@ use Rattle.outcomes.specs.Kept.{kept}
 use Rattle.outcomes.specs.Copy.{CopyOut}
 use Rattle.outcomes.specs.Title.{Decoded, Undecoded, Title, decoded, plain, Titled, untitled, no_room, titled}
 use Rattle.named.specs.First.{Listed, FirstCoded, found}
-use Rattle.named.specs.declared.Named.{Named}
-use Rattle.named.specs.declared.Named.TheVariants.{Found, Absent}
 use Rattle.named.proofs.ByName.{by_title*}
 use Rattle.named.proofs.Looking.{listed, own_params}
 use Rattle.values.specs.Rest.{rest}
 use Rattle.values.proofs.Values.{value_meant}
+use Rattle.units.specs.declared.Reading.TheVariants.{Unescaped}
 use Rattle.units.specs.Seen.{seen}
 use Rattle.decoding.specs.Measured.{octets_given}
 use Rattle.decoding.specs.Judged.{IsRight, IsWrong}
@@ -54,16 +53,16 @@ module _ {t : Table} {i : ℕ} (u : Usable Rfc5988 t) (l : i < t.link_count) {r 
       titled_in_room (plain none (ap (named t.text (octets "title")) (own_params t.param_slots is) ∙ e) refl) room
 
   -- a answers what was found as `title*`
-  module _ (a : Named) (first : FirstCoded t.param_slots r 5 a) where
+  module _ (a : Maybe ParamParts) (first : FirstCoded t.param_slots r 5 a) where
     star_found : kept t i (octets "title*") ≡ found a
     star_found =
         ap (named t.text (octets "title*")) (own_params t.param_slots is)
         ∙ by_title* t.text t.param_slots listed_here ∙ first
 
-    pub no_star : a ≡ Absent → Undecoded t i
+    pub no_star : a ≡ None → Undecoded t i
     no_star e v d = none_some (sym (star_found ∙ ap found e) ∙ d.is_kept)
 
-    module _ {p : ParamParts} (e : a ≡ Found p) where
+    module _ {p : ParamParts} (e : a ≡ Some p) where
       kept_here : kept t i (octets "title*") ≡ some (to_param p)
       kept_here = star_found ∙ ap found e
 
@@ -76,20 +75,20 @@ module _ {t : Table} {i : ℕ} (u : Usable Rfc5988 t) (l : i < t.link_count) {r 
       star_inside = good_there.value_span
 
       abbrev meaning : List ℕ
-      meaning = seen true t.text p.value.to.0 p.value.from.0
+      meaning = seen Unescaped t.text p.value.to.0 p.value.from.0
 
       is_meant : value_of t.text (to_param p) ≡ meaning
       is_meant = value_meant good_there
 
-      pub wrong_star : IsWrong true t.text p.value.to.0 p.value.from.0 → Undecoded t i
+      pub wrong_star : IsWrong Unescaped t.text p.value.to.0 p.value.from.0 → Undecoded t i
       wrong_star w v d =
           let same : some (to_param p) ≡ some d.param = sym kept_here ∙ d.is_kept in
           let q : to_param p ≡ d.param = cc in
           let value : value_of t.text d.param ≡ meaning = ap (value_of t.text) (sym q) ∙ is_meant in
           w.wrong v (subst (λ (x : List ℕ). Extended x v) value d.right)
 
-      pub right_titled : {k n : ℕ} → IsRight true t.text p.value.to.0 p.value.from.0 k n → {out : List ℕ} {o : CopyOut}
-          → InRoom out (octets_given (given (seen true t.text p.value.to.0 k))) o → Titled t i out o
+      pub right_titled : {k n : ℕ} → IsRight Unescaped t.text p.value.to.0 p.value.from.0 k n → {out : List ℕ} {o : CopyOut}
+          → InRoom out (octets_given (given (seen Unescaped t.text p.value.to.0 k))) o → Titled t i out o
       right_titled {k} {n} w {out} {o} room =
           titled_in_room
           (decoded

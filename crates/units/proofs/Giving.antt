@@ -2,21 +2,22 @@
 use Prim.Native.Nat.{ℕ, ◌+◌, ◌≤◌, ◌<◌}
 use native.Mathlib.Omega.{arith}
 use mathlib.Core.Path.{◌≡◌, refl, sym, ap, ◌∙◌}
-use mathlib.Core.Bool.{Bool, true, false, false≢true}
+use mathlib.Core.Bool.{true, false, false≢true}
 use mathlib.Core.List.{List, ◌∷◌}
+use Rattle.std.specs.Prelude.{Option, Some, None}
+use Rattle.kinds.specs.declared.Place.{Place}
 use lib.ListN.{length, get_or}
 use borrow.Author.Tests.{eq-eqb, ne_eqb}
 use Rattle.octets.specs.Sets.{is_hex, is_token, is_letter, is_digit}
 use Rattle.extended.specs.Value.{percent, is_attribute, tripled}
 use Rattle.extended.specs.Decoded.{Open, no_triple, behind_percent, behind_digit, given_from}
 use Rattle.units.specs.Seen.{seen, ReadsOctet, ReadsNone}
-use Rattle.units.specs.Units.{GivesOctet, GivesNone, GivesWrong, IsUnit}
-use Rattle.units.specs.declared.Given.{Given}
-use Rattle.units.specs.declared.Given.TheVariants.{Gives, Done, Wrong}
+use Rattle.units.specs.Units.{GivesOctet, GivesNone, GivesWrong, IsTriple}
+use Rattle.units.specs.declared.Reading.{Reading}
 use Rattle.units.proofs.Looking.{plain, reads_octet}
 
 -- nothing is left
-module _ {b : Bool} {s : List ℕ} {e k : ℕ} (w : ReadsNone b s e k) where
+module _ {b : Reading} {s : List ℕ} {e k : ℕ} (w : ReadsNone b s e k) where
   pub done : GivesNone no_triple b s e k
   done = record { none = rw w.none }
 
@@ -27,20 +28,24 @@ module _ {b : Bool} {s : List ℕ} {e k : ℕ} (w : ReadsNone b s e k) where
   no_second a = record { wrong = rw w.none }
 
 -- the octet c is left, n behind it
-module _ {b : Bool} {s : List ℕ} {e k c n : ℕ} (w : ReadsOctet b s e k c n) where
+module _ {b : Reading} {s : List ℕ} {e k c n : ℕ} (w : ReadsOctet b s e k c n) where
   -- one octet further on something else is open
-  on : (st to : Open) → given_from st (c ∷ seen b s e n) ≡ given_from to (seen b s e n) → (r : Given) → IsUnit to b s e n r
-      → IsUnit st b s e k r
-  on st to q (Gives x m) g =
-      record { octet = rw w.octet (q ∙ g.octet); onward = omega (arith, w.onward, g.onward); inside = g.inside }
-  on st to q Done g = record { none = rw w.octet (q ∙ g.none) }
-  on st to q Wrong g = record { wrong = rw w.octet (q ∙ g.wrong) }
+  module _ (st to : Open) (q : given_from st (c ∷ seen b s e n) ≡ given_from to (seen b s e n)) where
+    on_gives : {x m : ℕ} → GivesOctet to b s e n x m → GivesOctet st b s e k x m
+    on_gives g = record { octet = rw w.octet (q ∙ g.octet); onward = omega (arith, w.onward, g.onward); inside = g.inside }
 
-  pub to_first : c ≡ percent → (r : Given) → IsUnit behind_percent b s e n r → IsUnit no_triple b s e k r
-  to_first q = on no_triple behind_percent (rw (eq-eqb c percent q))
+    on_wrong : GivesWrong to b s e n → GivesWrong st b s e k
+    on_wrong g = record { wrong = rw w.octet (q ∙ g.wrong) }
 
-  pub to_second : is_hex c ≡ true → (r : Given) → IsUnit (behind_digit c) b s e n r → IsUnit behind_percent b s e k r
-  to_second h = on behind_percent (behind_digit c) (rw h)
+  pub first_gives : c ≡ percent → {x m : ℕ} → GivesOctet behind_percent b s e n x m → GivesOctet no_triple b s e k x m
+  first_gives q = on_gives no_triple behind_percent (rw (eq-eqb c percent q))
+
+  pub first_wrong : c ≡ percent → GivesWrong behind_percent b s e n → GivesWrong no_triple b s e k
+  first_wrong q = on_wrong no_triple behind_percent (rw (eq-eqb c percent q))
+
+  pub to_second : is_hex c ≡ true → (r : Option (ℕ × Place)) → IsTriple (behind_digit c) b s e n r → IsTriple behind_percent b s e k r
+  to_second h (Some x) = on_gives behind_percent (behind_digit c) (rw h)
+  to_second h None = on_wrong behind_percent (behind_digit c) (rw h)
 
   pub attribute : (c ≡ percent → ⊥) → is_attribute c ≡ true → GivesOctet no_triple b s e k c n
   attribute q h = record { octet = rw (w.octet, ne_eqb c percent q, h); onward = w.onward; inside = w.inside }
@@ -62,7 +67,7 @@ module _ {b : Bool} {s : List ℕ} {e k c n : ℕ} (w : ReadsOctet b s e k c n) 
 apart : (x c : ℕ) → is_attribute x ≡ false → is_attribute c ≡ true → c ≡ x → ⊥
 apart x c n h q = false≢true (sym n ∙ ap is_attribute (sym q) ∙ h)
 
-pub attribute_here : (b : Bool) (s : List ℕ) {e k : ℕ} → k < e → e ≤ length s → is_attribute (get_or s k 0) ≡ true → {n : ℕ} → n ≡ k + 1
+pub attribute_here : (b : Reading) (s : List ℕ) {e k : ℕ} → k < e → e ≤ length s → is_attribute (get_or s k 0) ≡ true → {n : ℕ} → n ≡ k + 1
     → GivesOctet no_triple b s e k (get_or s k 0) n
 unfolding is_attribute is_token is_letter is_digit
 attribute_here b s {e} {k} h l a q =

@@ -26,6 +26,7 @@ pub fn meaning_len(s: &[u8], part: Span) -> usize
     let e = part.to;
     let mut n = 0;
     let mut k = part.from;
+    // Steps by one octet or two, so a for loop doesn't fit.
     while k.0 < e.0 {
         let i = k.0;
         if s[i] == b'\\' {
@@ -49,6 +50,7 @@ pub fn copy_meaning(s: &[u8], part: Span, out: &mut [u8], at: OutPlace) -> OutPl
     let e = part.to;
     let mut to = at;
     let mut k = part.from;
+    // Steps by one octet or two, so a for loop doesn't fit.
     while k.0 < e.0 {
         let here = k.0;
         let mut p = k;

@@ -6,7 +6,7 @@ ghost use Rattle.std.specs.Prelude.{◌≡◌, ◌+◌, ◌<◌, ◌≤◌, leng
 ghost use Rattle.outcomes.specs.Number.{limit};
 
 use answers::LIMIT;
-use answers::read_answer::ReadAnswer;
+use lent::Table;
 use octets::editions::{RFC5988, RFC8288};
 use records::{LINK_SLOTS, PARAM_SLOTS};
 
@@ -21,8 +21,14 @@ fn list_in(edition: usize, header: &[u8]) {
     io::write_all(1, b"\n");
     let mut links = [0usize; 256 * LINK_SLOTS];
     let mut params = [0usize; 1024 * PARAM_SLOTS];
-    if let ReadAnswer::Done(counts) = listing::list(edition, header, &mut links, &mut params) {
-        ask::all(edition, header, &links, &params, counts);
+    if let Ok(counts) = listing::list(edition, header, &mut links, &mut params) {
+        let t = Table {
+            text: header,
+            links: &links,
+            params: &params,
+            counts,
+        };
+        ask::all(edition, &t);
     }
 }
 
@@ -32,31 +38,21 @@ fn list_header(header: &[u8]) {
     list_in(RFC5988, header);
 }
 
-// Where the line that begins at `from` ends.
-fn line_end(s: &[u8], from: usize) -> usize
-    requires { from ≤ length s.now }
-    ensures { (from ≤ result) × (result ≤ length s.now) }
-{
-    let mut i = from;
-    while i < s.len() && s[i] != b'\n' {
-        i += 1;
-    }
-    i
-}
-
+// The last line may have no end; behind an end there need be none.
 fn list_lines(s: &[u8]) {
-    let mut at = 0;
-    while at < s.len() {
-        let end = line_end(s, at);
-        list_header(&s[at..end]);
-        if end == s.len() {
-            return;
+    let mut from = 0;
+    for (i, c) in s.iter().enumerate() {
+        if *c == b'\n' {
+            list_header(&s[from..i]);
+            from = i + 1;
         }
-        at = end + 1;
+    }
+    if from < s.len() {
+        list_header(&s[from..]);
     }
 }
 
-// A header of the length that is lent: `<`, a run of `a`, and `>`.
+// A header of the length that is lent: `<`, a run of `a`, and `>`. The answer is listed, and used no further.
 fn list_long(header: &mut [u8])
     requires { 0 < length header.old }
 {
@@ -67,7 +63,7 @@ fn list_long(header: &mut [u8])
     header[0] = b'<';
     header[n - 1] = b'>';
     let mut links = [0usize; LINK_SLOTS];
-    listing::list(RFC8288, header, &mut links, &mut []);
+    let _ = listing::list(RFC8288, header, &mut links, &mut []);
 }
 
 fn run_of_a() -> [u8; LIMIT + 1]
@@ -88,7 +84,8 @@ const LINKS: usize = 2 * LINK_SLOTS;
 
 const PARAMS: usize = 3 * PARAM_SLOTS;
 
-// A header of two links and three parameters, in as many slots, up to one less than another record has.
+// A header of two links and three parameters, in as many slots, up to one less than another record has. The
+// answer is listed, and used no further.
 fn list_room(link_slots: usize, param_slots: usize)
     requires { (link_slots ≤ 11) × (param_slots ≤ 23) }
 {
@@ -99,7 +96,7 @@ fn list_room(link_slots: usize, param_slots: usize)
     io::write_all(1, b"\n");
     let mut links = [0usize; LINKS + 3];
     let mut params = [0usize; PARAMS + 5];
-    listing::list(
+    let _ = listing::list(
         RFC8288,
         b"<a>;x;y,<b>;z",
         &mut links[..link_slots],

@@ -10,7 +10,7 @@ ghost use Rattle.walk_lines.specs.Line.{word_of, ended_line, refused_line};
 ghost use Rattle.walk_lines.specs.Put.{PutLine};
 
 use answers::Refusal;
-use answers::walk_answer::{End, WalkAnswer};
+use answers::walk_answer::{End, Ended, WalkAnswer};
 use kinds::{OutPlace, PackNumber};
 use pack_uri::uri_of;
 use put_columns::{put_column, put_number};
@@ -52,7 +52,7 @@ fn put_refused(why: Refusal, line: &mut [u8]) -> usize
     ensures upper_bound { result ≤ length line.new }
 {
     let worded = put_column(b"refused", b'\t', line, OutPlace::start());
-    put_number(why.number(), b'\n', line, worded).0
+    put_number(why.into(), b'\n', line, worded).0
 }
 
 // Puts the line of a walk over the text at a buffer's start, and answers its length.
@@ -62,12 +62,12 @@ pub fn put_answer(text: &[u8], answer: WalkAnswer, line: &mut [u8]) -> usize
     ensures upper_bound { result ≤ length line.new }
 {
     match answer {
-        WalkAnswer::Ended(end, pack, steps) => {
+        Ok(Ended { end, pack, steps }) => {
             let part = uri_of(text, pack);
             let from = part.from.0;
             let to = part.to.0;
             put_ended(end, pack, &text[from..to], steps, line)
         }
-        WalkAnswer::Refused(why) => put_refused(why, line),
+        Err(why) => put_refused(why, line),
     }
 }

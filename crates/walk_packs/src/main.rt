@@ -4,7 +4,7 @@
 
 ghost use Rattle.io.specs.Counts.{IsPrefixLen as Within};
 
-use std::env::{Env, FillError};
+use std::env::Env;
 use std::fs::File;
 use std::io::Read;
 use std::os::fd::AsRawFd;
@@ -34,21 +34,12 @@ fn read_word<R: Env>(rt: &R, i: usize, room: &mut [u8]) -> usize
     rt.arg(i, room).unwrap_or(0)
 }
 
-// Whether there is an argument of that number; the program's name has number 0.
-fn has_arg<R: Env>(rt: &R, i: usize) -> bool {
-    let mut one = [0u8; 1];
-    !matches!(rt.arg(i, &mut one), Err(FillError::NotPresent))
-}
-
 // Puts the word for the steps at the start of the buffer, and answers its length. Unless there are three arguments, the word is empty, and
 // so is one that doesn't fit.
 fn read_steps<R: Env>(rt: &R, room: &mut [u8]) -> usize
     ensures { Within result room.new }
 {
-    if has_arg(rt, 4) {
-        return 0;
-    }
-    read_word(rt, 3, room)
+    arguments::read_last(rt, 3, room).unwrap_or(0)
 }
 
 // Whether nothing is left to read. A read that fails has something left.

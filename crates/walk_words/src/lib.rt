@@ -48,14 +48,11 @@ fn number_up_to(word: &[u8], digits: usize, most: usize) -> usize
         return most;
     }
     let mut n = 0;
-    let mut i = 0;
-    while i < word.len() {
-        let c = word[i];
+    for &c in word {
         if !is_digit(c) {
             return most;
         }
         n = with_digit(n, c, most);
-        i += 1;
     }
     n
 }

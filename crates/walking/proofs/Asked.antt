@@ -13,16 +13,15 @@ use Rattle.catalogues.specs.Packs.{pack_limit, Pack, Room, RightPack, Catalogue}
 use Rattle.catalogues.specs.Walks.{Ended, walk, relation_of}
 use Rattle.catalogues.specs.Outcome.{step_limit, walked, Walk, bad_catalogue, no_such_pack, no_room, walks, room_of}
 use Rattle.answers.specs.Walk.{walk_numbers}
+use Rattle.answers.specs.declared.Refusal.{Refusal}
 use Rattle.answers.specs.declared.Refusal.TheVariants.{BadCatalogue}
-use Rattle.answers.specs.declared.walk_answer.WalkAnswer.{WalkAnswer}
-use Rattle.answers.specs.declared.walk_answer.WalkAnswer.TheVariants.{Refused}
+use Rattle.answers.specs.declared.walk_answer.Ended as answer
 use Rattle.paces.specs.Paces.{relation_on, IsPaces, far, go}
 use Rattle.paces.specs.declared.Way.{Way}
 use Rattle.paces.specs.declared.Paces.{Paces}
-use Rattle.paces.specs.declared.Paces.TheVariants.{Go, Far}
+use Rattle.std.specs.Prelude.{Option, Some, Result, Err}
+use Rattle.std.specs.Prelude as std
 use Rattle.catalogue_check.specs.Checked.{Indexed, tables, None, IsChecked, right, wrong}
-use Rattle.catalogue_check.specs.declared.Checked.{Checked}
-use Rattle.catalogue_check.specs.declared.Checked.TheVariants as checked
 use Rattle.target_steps.specs.Stepped.{Listed}
 use Rattle.stepping.specs.Known.{Known, KnownPacks}
 use Rattle.pack_walk.specs.Walked.{walk_out, behind, WalksOn, WalksFrom, no_start, no_octets, from_start}
@@ -34,16 +33,19 @@ use Rattle.walking.specs.Asked.{Asks, WalksOver}
 pub passed : (F : ℤ → Type 0) (n : ℤ) → SFits w32 n → F (to_z w32 (of_z w32 n)) → F n
 passed F n f h = subst F (to_z-of_z w32 n f) h
 
-pub far_told : {n : ℤ} {r : Paces} → IsPaces n r → r ≡ Far → step_limit < nat_abs n
+pub far_told : {n : ℤ} {r : Option Paces} → IsPaces n r → r ≡ std.None → step_limit < nat_abs n
 far_told (far h) e = h
 far_told (go h a b) e = let z : ◌≡◌ {A = ℕ} 0 1 = cc in absurd (omega arith)
 
-pub within_told : {n : ℤ} {r : Paces} {w : Way} {k : ℕ} → IsPaces n r → r ≡ Go w k → Asks n w k
+pub within_told : {n : ℤ} {r : Option Paces} {p : Paces} → IsPaces n r → r ≡ Some p → Asks n p.way p.steps
 within_told (far h) e = let z : ◌≡◌ {A = ℕ} 0 1 = cc in absurd (omega arith)
-within_told {n} {w = w} {k} (go {w = v} {k = j} h a b) e =
-    let same_way : v ≡ w = cc in
-    let same_count : j ≡ k = cc in
-    record { inside = h; relation = a ∙ ap relation_on same_way; count = b ∙ same_count }
+within_told {p = p} (go {w = v} {k = j} h a b) e =
+    let same : record { way = v; steps = j } ≡ p = cc in
+    record {
+      inside = h;
+      relation = a ∙ ap (λ (x : Paces). relation_on x.way) same;
+      count = b ∙ ap (λ (x : Paces). x.steps) same;
+    }
 
 -- ---- the text that is checked, in any room with such tables
 
@@ -72,12 +74,12 @@ pub record Right (s : List ℕ) (l p : ℕ) (X : List ℕ) (n : ℕ) : Type 0 wh
   pub indexed : Indexed s X packs
 
 module _ {s : List ℕ} {l p : ℕ} {X : List ℕ} where
-  pub right_told : {r : Checked} {n : ℕ} → IsChecked s l p X r → r ≡ checked.Right n → Right s l p X n
+  pub right_told : {r : Option ℕ} {n : ℕ} → IsChecked s l p X r → r ≡ Some n → Right s l p X n
   right_told (right ps c x) e =
       record { packs = ps; count = cc; catalogue = c; indexed = x }
   right_told (wrong f) e = let z : ◌≡◌ {A = ℕ} 0 1 = cc in absurd (omega arith)
 
-  pub wrong_told : {r : Checked} → IsChecked s l p X r → r ≡ checked.Wrong → None s l p
+  pub wrong_told : {r : Option ℕ} → IsChecked s l p X r → r ≡ std.None → None s l p
   wrong_told (right ps c x) e = let z : ◌≡◌ {A = ℕ} 0 1 = cc in absurd (omega arith)
   wrong_told (wrong f) e = f
 
@@ -95,11 +97,11 @@ module _ {s : List ℕ} {l p : ℕ} {X : List ℕ} where
 -- ---- the outcome
 
 module _ (s L P W : List ℕ) (start : ℕ) (w : Way) (k : ℕ) where
-  pub refused_catalogue : None s (length L) (length P) → WalksOver s (room_of L P W) start w k (Refused BadCatalogue)
+  pub refused_catalogue : None s (length L) (length P) → WalksOver s (room_of L P W) start w k (Err BadCatalogue)
   refused_catalogue f z a = bad_catalogue a.inside (none_in_room f)
 
   module _ {X : List ℕ} {n : ℕ} (r : Right s (length L) (length P) X n) (room : 3 * pack_limit ≤ length X) where
-    pub walks_all : {x : WalkAnswer} → WalksFrom s X n (length L) (length P) (length W) (relation_on w) k start x
+    pub walks_all : {x : Result answer.Ended Refusal} → WalksFrom s X n (length L) (length P) (length W) (relation_on w) k start x
         → WalksOver s (room_of L P W) start w k x
     walks_all (no_start h) z a = no_such_pack a.inside (in_room r.catalogue) (omega (arith, h, r.count))
     walks_all (no_octets h g) z a = no_room a.inside (in_room r.catalogue) (omega (arith, h, r.count)) g

@@ -9,9 +9,9 @@ ghost use Rattle.walking.specs.Asked.{WalksOver};
 
 use answers::Refusal;
 use answers::walk_answer::WalkAnswer;
-use catalogue_check::{Checked, PACKS, check};
+use catalogue_check::{PACKS, check};
 use kinds::PackNumber;
-use paces::{Paces, Way, paces_of};
+use paces::{Way, paces_of};
 use pack_index::PACK_SLOTS;
 use pack_walk::walk_from;
 
@@ -29,18 +29,12 @@ fn walk_over(
     requires { steps ≤ step_limit }
     ensures { WalksOver catalogue.now (room_of links.old params.old work.old) start.0 way steps result }
 {
-    let classes = octet_classes::table();
     let any = catalogue.len();
     let mut index = [any; PACKS * PACK_SLOTS];
-    let checked = check(&classes, catalogue, links, params, &mut index);
-    match checked {
-        Checked::Wrong => WalkAnswer::Refused(Refusal::BadCatalogue),
-        Checked::Right(count) => {
-            walk_from(
-                catalogue, &index, count, start, way, steps, links, params, work,
-            )
-        }
-    }
+    let count = check(catalogue, links, params, &mut index).ok_or(Refusal::BadCatalogue)?;
+    walk_from(
+        catalogue, &index, count, start, way, steps, links, params, work,
+    )
 }
 
 // Walks so many steps over a catalogue, from the pack numbered `start`.
@@ -56,9 +50,14 @@ pub fn walk(
         (walk_out (walk_numbers result)) }
     ensures left_free { LeftFree links.old params.old work.old links.new params.new work.new }
 {
-    let asked = paces_of(steps);
-    match asked {
-        Paces::Far => WalkAnswer::Refused(Refusal::OutOfRange),
-        Paces::Go(way, n) => walk_over(catalogue, start, way, n, links, params, work),
-    }
+    let asked = paces_of(steps).ok_or(Refusal::OutOfRange)?;
+    walk_over(
+        catalogue,
+        start,
+        asked.way,
+        asked.steps,
+        links,
+        params,
+        work,
+    )
 }

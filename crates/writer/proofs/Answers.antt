@@ -9,12 +9,20 @@ use Rattle.kinds.proofs.Stores.{sets_front}
 use Rattle.tables.specs.Table.{Table}
 use Rattle.outcomes.specs.Number.{limit, done, no_relation_number}
 use Rattle.outcomes.specs.Copy.{untouched}
-use Rattle.outcomes.specs.Write.{written_form, Related, Wrote, no_relation, wrote}
+use Rattle.outcomes.specs.Write.{written_form, Related, Wrote, no_relation, long_form, no_room, wrote}
+use Rattle.answers.specs.Refusal.{refusal_number}
+use Rattle.answers.specs.declared.Refusal.{Refusal}
+use Rattle.writer.specs.Room.{Over, over_limit, over_room}
 use Rattle.writer.specs.Related.{Unrelated}
 
 module _ {t : Table} (out : List ℕ) where
   pub unrelated_answer : Unrelated t → Wrote t out (untouched out no_relation_number)
   unrelated_answer r = no_relation r.1 r.2
+
+  -- a form that doesn't fit
+  pub over_answer : Related t → {w : Refusal} → Over (length (written_form t)) (length out) w → Wrote t out (untouched out (refusal_number w))
+  over_answer r (over_limit h) = long_form r h
+  over_answer r (over_room h k) = no_room r h k
 
   -- the length is told by the place behind what was put
   pub written_answer : {new : List ℕ} {to : ℕ} → Related t → (length (written_form t) ≤ limit) × (length (written_form t) ≤ length out)

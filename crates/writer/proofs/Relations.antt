@@ -7,6 +7,7 @@ use mathlib.Core.Logic.{⊎_elim}
 use mathlib.Core.Bool.{Bool, true, false, not, true≢false, false≢true}
 use mathlib.Core.List.{List, [], ◌∷◌}
 use borrow.Author.Tests.{not-true, not-false}
+use Rattle.std.specs.Prelude.{Some, None}
 use Rattle.octets.specs.Text.{octets}
 use Rattle.octets.specs.Editions.{further}
 use Rattle.octets.specs.declared.editions.Edition.TheVariants.{Rfc5988}
@@ -20,7 +21,6 @@ use Rattle.values.specs.Rest.{rest}
 use Rattle.values.proofs.Values.{value_meant}
 use Rattle.runs.specs.Runs.{is_none}
 use Rattle.named.specs.First.{Listed, FirstCoded}
-use Rattle.named.specs.declared.Named.TheVariants.{Found, Absent}
 use Rattle.tables.proofs.InGood.{named_each}
 use Rattle.named.proofs.ByName.{by_rel}
 use Rattle.tables.specs.Good.{InText, GoodParam}
@@ -29,11 +29,11 @@ use Rattle.writer.specs.Related.{TellsRelated}
 -- ---- a link by its record, whose first `rel` was looked for
 
 module _ (s P : List ℕ) (l : LinkRecord) (h : Listed s P l) where
-  pub no_rel : FirstCoded P l 1 Absent → false ≡ not (is_none (relations s (to_link P l)))
+  pub no_rel : FirstCoded P l 1 None → false ≡ not (is_none (relations s (to_link P l)))
   unfolding relations
   no_rel e = sym (ap (λ o. not (is_none (runs_of s o))) (by_rel s P h ∙ e))
 
-  module _ {p : ParamParts} (e : FirstCoded P l 1 (Found p)) where
+  module _ {p : ParamParts} (e : FirstCoded P l 1 (Some p)) where
     rel_good : GoodParam (further Rfc5988) s (to_param p)
     rel_good = named_each s (octets "rel") h.params (by_rel s P h ∙ e)
 

@@ -1,11 +1,15 @@
 -- Whether a form goes into a buffer.
-use Rattle.std.specs.Prelude.{ℕ, ◌≤◌, ◌<◌}
+use Rattle.std.specs.Prelude.{ℕ, ◌≤◌, ◌<◌, Result, Ok, Err, ⊤}
 use Rattle.outcomes.specs.Number.{limit}
-use Rattle.writer.specs.declared.room.Fit.{Fit}
-use Rattle.writer.specs.declared.room.Fit.TheVariants.{Fits, OverLimit, OverRoom}
+use Rattle.answers.specs.declared.Refusal.{Refusal}
+use Rattle.answers.specs.declared.Refusal.TheVariants.{TooLong, NoOutputRoom}
 
--- how a form of n octets fits the limit and a buffer of `room` octets
-abbrev pub IsFit : ℕ → ℕ → Fit → Type 0
-IsFit n room Fits = (n ≤ limit) × (n ≤ room)
-IsFit n room OverLimit = limit < n
-IsFit n room OverRoom = (n ≤ limit) × (room < n)
+-- why a form of n octets doesn't fit the limit or a buffer of `room` octets
+pub data Over (n room : ℕ) : Refusal → Type 0 where
+  over_limit : limit < n → Over n room TooLong
+  over_room : n ≤ limit → room < n → Over n room NoOutputRoom
+
+-- whether it fits
+abbrev pub IsFit : ℕ → ℕ → Result ⊤ Refusal → Type 0
+IsFit n room (Ok _) = (n ≤ limit) × (n ≤ room)
+IsFit n room (Err w) = Over n room w

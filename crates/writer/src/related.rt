@@ -6,11 +6,12 @@ ghost use Rattle.outcomes.specs.Usable.{Usable};
 ghost use Rattle.records.specs.Slots.{to_link};
 ghost use Rattle.runs.specs.Runs.{is_none};
 ghost use Rattle.tables.specs.Relation.{relations};
-ghost use Rattle.tables.specs.Table.{table_of};
 ghost use Rattle.writer.specs.Related.{TellsRelated};
+ghost use Rattle.lent.specs.Lent.{lent};
 
-use kinds::{Counts, LinkNumber};
-use named::{Named, first_of};
+use kinds::LinkNumber;
+use lent::Table;
+use named::first_of;
 use names::REL;
 use records::LinkRecord;
 use runs::has_runs;
@@ -22,23 +23,21 @@ fn is_related(text: &[u8], params: &[usize], l: LinkRecord) -> bool
 {
     let rel = first_of(params, l, REL);
     match rel {
-        Named::Found(p) => has_runs(text, p.value),
-        Named::Absent => false,
+        Some(p) => has_runs(text, p.value),
+        None => false,
     }
 }
 
 // Whether every link has a relation.
-pub fn all_related(text: &[u8], links: &[usize], params: &[usize], counts: Counts) -> bool
-    requires { Usable Rfc5988 (table_of text.now links.now params.now counts.links counts.params) }
-    ensures { TellsRelated (table_of text.now links.now params.now counts.links counts.params) result }
+pub fn all_related(t: &Table) -> bool
+    requires { Usable Rfc5988 (lent t.now) }
+    ensures { TellsRelated (lent t.now) result }
 {
-    let mut i = LinkNumber::first();
-    while i.0 < counts.links {
-        let l = records::link_at(links, i);
-        if !is_related(text, params, l) {
+    for i in 0..t.counts.links {
+        let l = records::link_at(t.links, LinkNumber(i));
+        if !is_related(t.text, t.params, l) {
             return false;
         }
-        i = i.next();
     }
     true
 }

@@ -1,48 +1,32 @@
 // Whether the written form goes into a buffer.
 ghost use Rattle.std.specs.Prelude.{length};
 ghost use Rattle.octets.specs.declared.editions.Edition.TheVariants.{Rfc5988};
-ghost use Rattle.octet_classes.specs.Classes.{Classes};
 ghost use Rattle.outcomes.specs.Usable.{Usable};
 ghost use Rattle.outcomes.specs.Write.{written_form};
-ghost use Rattle.tables.specs.Table.{table_of};
 ghost use Rattle.writer.specs.Room.{IsFit};
+ghost use Rattle.lent.specs.Lent.{lent};
 
-use answers::LIMIT;
-use kinds::Counts;
+use answers::{LIMIT, Refusal};
+use lent::Table;
 use measuring::{form_bound, form_len};
 
-// The form is within the limit and the room, or over the one or the other; the limit comes first.
-#[derive(Clone, Copy)]
-pub enum Fit {
-    Fits,
-    OverLimit,
-    OverRoom,
-}
-
-// The form is measured only where its bound doesn't fit.
-pub fn fit_of(
-    classes: &[u8; 256],
-    text: &[u8],
-    links: &[usize],
-    params: &[usize],
-    counts: Counts,
-    room: usize,
-) -> Fit
-    requires { Usable Rfc5988 (table_of text.now links.now params.now counts.links counts.params) × Classes classes.now }
+// The form is within the limit and the room, or is refused; the limit comes first. It is measured only where its bound doesn't fit.
+pub fn fit_of(t: &Table, room: usize) -> Result<(), Refusal>
+    requires { Usable Rfc5988 (lent t.now) }
     ensures { IsFit
-        (length (written_form (table_of text.now links.now params.now counts.links counts.params)))
+        (length (written_form (lent t.now)))
         room result }
 {
-    let bound = form_bound(classes, text, links, params, counts);
+    let bound = form_bound(t);
     if bound <= LIMIT && bound <= room {
-        return Fit::Fits;
+        return Ok(());
     }
-    let n = form_len(classes, text, links, params, counts);
+    let n = form_len(t);
     if n > LIMIT {
-        return Fit::OverLimit;
+        return Err(Refusal::TooLong);
     }
     if n > room {
-        return Fit::OverRoom;
+        return Err(Refusal::NoOutputRoom);
     }
-    Fit::Fits
+    Ok(())
 }

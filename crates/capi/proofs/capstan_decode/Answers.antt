@@ -2,4 +2,4 @@
 use Rattle.capi.proofs.capstan_decode.Goals as goal
 
 pub returns : goal.returns
-returns c = rw c.numbers.ensures c.decode.ensures
+returns c = rw c.into.ensures c.decode.ensures

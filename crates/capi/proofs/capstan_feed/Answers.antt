@@ -2,4 +2,4 @@
 use Rattle.capi.proofs.capstan_feed.Goals as goal
 
 pub returns : goal.returns
-returns c = rw c.numbers.ensures c.feed.ensures
+returns c = rw c.into.ensures c.feed.ensures

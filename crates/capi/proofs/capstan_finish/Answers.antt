@@ -2,4 +2,4 @@
 use Rattle.capi.proofs.capstan_finish.Goals as goal
 
 pub returns : goal.returns
-returns c = rw c.numbers.ensures c.finish.ensures
+returns c = rw c.into.ensures c.finish.ensures

@@ -2,4 +2,4 @@
 use Rattle.capi.proofs.capstan_read.Goals as goal
 
 pub returns : goal.returns
-returns c = rw c.numbers.ensures c.read.ensures
+returns c = rw c.into.ensures c.read.ensures

@@ -2,4 +2,4 @@
 use Rattle.capi.proofs.capstan_resolve.Goals as goal
 
 pub returns : goal.returns
-returns c = rw c.numbers.ensures c.resolve.ensures
+returns c = rw c.into.ensures c.resolve.ensures

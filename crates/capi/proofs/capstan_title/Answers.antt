@@ -3,4 +3,4 @@ use Rattle.capi.proofs.capstan_title.Goals as goal
 
 pub returns : goal.returns
 returns c =
-    rw c.numbers.ensures (rw c.counts_of-counts.ensures at c.title.ensures)
+    rw c.into.ensures (rw c.counts_of-counts.ensures at c.title.ensures)

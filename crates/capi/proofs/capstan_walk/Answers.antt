@@ -10,7 +10,7 @@ pub returns : goal.returns
 returns c =
     let g = c.args in
     record {
-      walk = rw c.numbers.ensures
+      walk = rw c.into.ensures
           (passed (λ (z : ℤ). Walk g.catalogue.now (room_of g.links.now g.params.now g.work.now) g.start z (walk_out (walk_numbers c.walk.result)))
           g.steps c.ranges.steps c.walk.ensures.walk);
       left_free = c.walk.ensures.left_free;

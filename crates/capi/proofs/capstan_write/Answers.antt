@@ -3,4 +3,4 @@ use Rattle.capi.proofs.capstan_write.Goals as goal
 
 pub returns : goal.returns
 returns c =
-    rw c.numbers.ensures (rw c.counts_of-counts.ensures at c.write.ensures)
+    rw c.into.ensures (rw c.counts_of-counts.ensures at c.write.ensures)

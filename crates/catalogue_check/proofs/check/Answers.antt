@@ -26,24 +26,25 @@ shape_of-index-then-count-ge-PACKS c = c.loop-at.invariant.index
 pub returns-then-count-ge-PACKS : goal.returns-then-count-ge-PACKS
 returns-then-count-ge-PACKS c = too_many c.loop-at.invariant c.loop-at-test.true c.if-count-ge-PACKS.true
 
-pub add_pack-added-requires : goal.add_pack-added-requires
-add_pack-added-requires c =
+pub add_pack-requires : goal.add_pack-requires
+add_pack-requires c =
     let at = c.loop-at.invariant in
     let pre = c.requires in
     record {
-      from_in_bounds = (c.loop-at-test.true, c.if-count-ge-PACKS.false, pre.1);
-      pack_limit_in_bounds = (omega (arith, at.index, pre.0), asked at);
+      from_in_bounds = (c.loop-at-test.true, c.if-count-ge-PACKS.false);
+      pack_limit_in_bounds = (omega (arith, at.index, pre), asked at);
     }
 
-pub returns-in-Wrong : goal.returns-in-Wrong
-returns-in-Wrong c = none_more c.loop-at.invariant c.add_pack-added.ensures c.in-Wrong.is
+pub returns-in_err-next : goal.returns-in_err-next
+returns-in_err-next c =
+    rw c.from_residual.ensures (none_more c.loop-at.invariant c.add_pack.ensures c.in_err-next.was)
 
 pub overflow_add-count : goal.overflow_add-count
 overflow_add-count c = omega (arith, c.if-count-ge-PACKS.false)
 
 pub loop-at-smaller : goal.loop-at-smaller
 loop-at-smaller c =
-    let f = forward c.loop-at.invariant c.add_pack-added.ensures c.in-Before.is in
+    let f = forward c.loop-at.invariant c.add_pack.ensures c.in_ok-next.was in
     omega (arith, f.0, f.1)
 
 pub shape_of-links : goal.shape_of-links
@@ -60,14 +61,14 @@ returns c = all_read c.loop-at.invariant c.if-n-gt-CATALOGUE.false c.loop-at-tes
 
 pub loop-at-preserved : goal.loop-at-preserved
 loop-at-preserved c =
-    on c.loop-at.invariant c.add_pack-added.ensures c.in-Before.is c.if-count-ge-PACKS.false c.add_pack-added.auto.links
-    c.add_pack-added.auto.params c.add_pack-added.auto.index
+    on c.loop-at.invariant c.add_pack.ensures c.in_ok-next.was c.if-count-ge-PACKS.false c.add_pack.auto.links
+    c.add_pack.auto.params c.add_pack.auto.index
 
-pub shape_of-links-in-Wrong : goal.shape_of-links-in-Wrong
-shape_of-links-in-Wrong c = c.add_pack-added.auto.links ∙ c.loop-at.invariant.links
+pub shape_of-links-in_err-next : goal.shape_of-links-in_err-next
+shape_of-links-in_err-next c = c.add_pack.auto.links ∙ c.loop-at.invariant.links
 
-pub shape_of-params-in-Wrong : goal.shape_of-params-in-Wrong
-shape_of-params-in-Wrong c = c.add_pack-added.auto.params ∙ c.loop-at.invariant.params
+pub shape_of-params-in_err-next : goal.shape_of-params-in_err-next
+shape_of-params-in_err-next c = c.add_pack.auto.params ∙ c.loop-at.invariant.params
 
-pub shape_of-index-in-Wrong : goal.shape_of-index-in-Wrong
-shape_of-index-in-Wrong c = c.add_pack-added.auto.index ∙ c.loop-at.invariant.index
+pub shape_of-index-in_err-next : goal.shape_of-index-in_err-next
+shape_of-index-in_err-next c = c.add_pack.auto.index ∙ c.loop-at.invariant.index

@@ -1,5 +1,5 @@
--- The loop has put the first number and the i numbers behind it.
-use Prim.Native.Nat.{◌+◌, ◌*◌, ◌-◌, ◌≤◌}
+-- The loop has put the first number and the numbers before the index.
+use Prim.Native.Nat.{◌+◌, ◌*◌, ◌≤◌}
 use mathlib.Core.List.{◌∷◌, ◌++◌}
 use mathlib.Core.Path.{◌≡◌}
 use lib.ListN.{length, take}
@@ -7,9 +7,6 @@ use Rattle.columns.specs.Line.{columns}
 use Rattle.columns.specs.LineHolds.{octets_of}
 use Rattle.columns.proofs.line_of.Given as goal
 
-abbrev pub invariant-loop-i : goal.invariant-loop-i
-invariant-loop-i l =
-    (l.i ≤ length l.rest) × ((l.l.len ≤ length l.label + 21 * (1 + l.i)) × (octets_of l.l ≡ l.label ++ columns (l.first ∷ take l.i l.rest)))
-
-abbrev pub decreases-loop-i : goal.decreases-loop-i
-decreases-loop-i l = length l.rest - l.i
+abbrev pub invariant-loop-n : goal.invariant-loop-n
+invariant-loop-n l =
+    (l.l.len ≤ length l.label + 21 * (1 + l.n-index)) × (octets_of l.l ≡ l.label ++ columns (l.first ∷ take l.n-index l.rest))

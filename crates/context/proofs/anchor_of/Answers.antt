@@ -10,14 +10,14 @@ pub first_of-anchor-requires : goal.first_of-anchor-requires
 first_of-anchor-requires c =
     (listed_here c.requires.usable c.requires.link_lt_links c.link_at-l.ensures).room
 
-pub returns-in-Found : goal.returns-in-Found
-returns-in-Found c =
+pub returns-in-Some : goal.returns-in-Some
+returns-in-Some c =
     let first-of' = c.first_of-anchor in
     is_anchored c.requires.usable c.requires.link_lt_links c.link_at-l.ensures first-of'.result first-of'.ensures
-    c.in-Found.is
+    c.in-Some.is
 
-pub returns-in-Absent : goal.returns-in-Absent
-returns-in-Absent c =
+pub returns-in-None : goal.returns-in-None
+returns-in-None c =
     let first-of' = c.first_of-anchor in
     is_base c.requires.usable c.requires.link_lt_links c.link_at-l.ensures first-of'.result first-of'.ensures
-    c.in-Absent.is
+    c.in-None.is

@@ -1,20 +1,20 @@
 -- The fronts lead to the characters, and these are counted.
-use Rattle.decoding.proofs.Judging.{no_chars, unfit, fit}
+use Rattle.decoding.proofs.Judging.{no_charset, no_chars, chars_there, unfit, fit}
 use Rattle.decoding.proofs.judge.Goals as goal
 
-pub returns-in-Nowhere : goal.returns-in-Nowhere
-returns-in-Nowhere c =
-    let lang = rw c.in-Nowhere.is at c.past_language-chars.ensures in
-    no_chars (rw c.past_charset-language.ensures at lang)
+pub returns-in_err-language : goal.returns-in_err-language
+returns-in_err-language c =
+    rw c.from_residual.ensures (no_charset c.in_err-language.ensures)
 
-pub returns-in-Unfit : goal.returns-in-Unfit
-returns-in-Unfit c =
-    let lang = rw c.in-At.is at c.past_language-chars.ensures in
-    unfit _ (rw c.past_charset-language.ensures at lang)
-    (rw c.in-Unfit.is at c.measure-measured.ensures)
+pub returns-in_err-chars : goal.returns-in_err-chars
+returns-in_err-chars c =
+    rw c.from_residual-in_err-chars.ensures (no_chars (chars_there _ _ c.in_ok-language.ensures c.in_err-chars.ensures))
 
-pub returns-in-Count : goal.returns-in-Count
-returns-in-Count c =
-    let lang = rw c.in-At.is at c.past_language-chars.ensures in
-    fit _ (rw c.past_charset-language.ensures at lang)
-    (rw c.in-Count.is at c.measure-measured.ensures)
+pub returns-in_err-count : goal.returns-in_err-count
+returns-in_err-count c =
+    rw c.from_residual-in_err-count.ensures
+    (unfit _ (chars_there _ _ c.in_ok-language.ensures c.in_ok-chars.ensures) c.in_err-count.ensures)
+
+pub returns : goal.returns
+returns c =
+    fit _ (chars_there _ _ c.in_ok-language.ensures c.in_ok-chars.ensures) c.in_ok-count.ensures

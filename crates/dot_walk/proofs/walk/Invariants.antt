@@ -6,7 +6,4 @@ use Rattle.bare.specs.Bare.{bare_of}
 use Rattle.dot_walk.proofs.walk.Given as goal
 
 abbrev pub invariant-loop-i : goal.invariant-loop-i
-invariant-loop-i l = (l.from ≤ l.i) × (l.i ≤ l.initial.i) × (l.t ≡ run (bare_of l.s l.i l.initial.i) l.initial.t)
-
-abbrev pub decreases-loop-i : goal.decreases-loop-i
-decreases-loop-i l = l.i
+invariant-loop-i l = (l.i-start ≤ l.i) × (l.t ≡ run (bare_of l.s l.i l.initial.i) l.initial.t)

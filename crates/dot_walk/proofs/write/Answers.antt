@@ -12,14 +12,6 @@ pub loop-i-init : goal.loop-i-init
 loop-i-init c =
     w.begin _ _ _ _ _ _ c.requires.in_text.0.ordered c.requires.begun_bound.0
 
-pub overflow_sub-i : goal.overflow_sub-i
-overflow_sub-i c = omega (arith, c.loop-i-test.true)
-
-pub bounds-s-i : goal.bounds-s-i
-bounds-s-i c =
-    let loop' = c.loop-i in
-    omega (arith, c.loop-i-test.true, loop'.invariant.high, c.requires.in_text.0.inside)
-
 pub passed-n-requires : goal.passed-n-requires
 passed-n-requires c =
     let loop' = c.loop-i in
@@ -58,11 +50,6 @@ put_before-requires c =
     let r = w.room_left _ _ _ _ _ _ n i h l passed'.ensures in
     let three = added_three t (get_or given.s.now (loop'.i - 1) 0) in
     (omega (arith, g, three), omega (arith, g, r), omega (arith, w.same_length _ _ _ _ _ _ i, c.requires.begun_bound.1))
-
-pub loop-i-smaller : goal.loop-i-smaller
-loop-i-smaller c =
-    let test = c.loop-i-test in
-    omega (arith, test.true)
 
 pub loop-i-preserved : goal.loop-i-preserved
 loop-i-preserved c =

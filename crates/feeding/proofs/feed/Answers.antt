@@ -3,9 +3,10 @@ use Rattle.octets.proofs.Further.{asked_known, asked_unknown}
 use Rattle.outcomes.specs.InEdition.{unknown, known}
 use Rattle.feeding.proofs.feed.Goals as goal
 
-pub returns-in-Unknown : goal.returns-in-Unknown
-returns-in-Unknown c = unknown (asked_unknown c.edition_of.ensures c.in-Unknown.is)
+pub returns-in_default : goal.returns-in_default
+returns-in_default c =
+    rw (c.refused.ensures, c.into.ensures) (unknown (asked_unknown c.edition_of.ensures c.in_default.is))
 
-pub returns-in-Known : goal.returns-in-Known
-returns-in-Known c =
-    known (asked_known c.edition_of.ensures c.in-Known.is) c.feed_in.ensures
+pub returns : goal.returns
+returns c =
+    known (asked_known c.edition_of.ensures c.in-Some.is) c.feed_in.ensures

@@ -6,10 +6,11 @@ use Rattle.feeding.proofs.Finishing.{too_small, too_long, faulty, reads}
 use Rattle.feeding.proofs.finish_in.Goals as goal
 
 pub returns-then-gathered-lt-LIMIT : goal.returns-then-gathered-lt-LIMIT
-returns-then-gathered-lt-LIMIT c = too_small _ c.if-gathered-lt-LIMIT.true
+returns-then-gathered-lt-LIMIT c = rw c.into.ensures (too_small _ c.if-gathered-lt-LIMIT.true)
 
 pub returns-then-total-gt-LIMIT : goal.returns-then-total-gt-LIMIT
-returns-then-total-gt-LIMIT c = too_long _ c.if-gathered-lt-LIMIT.false c.if-total-gt-LIMIT.true
+returns-then-total-gt-LIMIT c =
+    rw c.into-then-total-gt-LIMIT.ensures (too_long _ c.if-gathered-lt-LIMIT.false c.if-total-gt-LIMIT.true)
 
 pub returns-then-place-total : goal.returns-then-place-total
 returns-then-place-total c = faulty _ c.if-gathered-lt-LIMIT.false c.if-total-gt-LIMIT.false c.if-place-total.true

@@ -21,13 +21,15 @@ put_part-requires c =
 
 pub returns-in-Stuck : goal.returns-in-Stuck
 returns-in-Stuck c =
-    subst (FeedsIn _ _ _ _ _) (sym c.moved.ensures)
-    (gets_stuck _ c.requires (scan_stuck (rw c.spot_of.ensures at c.scan_part.ensures) c.in-Stuck.is))
+    rw c.refused.ensures
+    (subst (FeedsIn _ _ _ _ _) (sym c.moved.ensures)
+    (gets_stuck _ c.requires (scan_stuck (rw c.spot_of.ensures at c.scan_part.ensures) c.in-Stuck.is)))
 
 pub returns-in-Unfit : goal.returns-in-Unfit
 returns-in-Unfit c =
-    subst (FeedsIn _ _ _ _ _) (sym c.moved-in-Unfit.ensures)
-    (gets_refused _ c.requires (scan_unfit (rw c.spot_of.ensures at c.scan_part.ensures) c.in-Unfit.is))
+    rw c.refused-in-Unfit.ensures
+    (subst (FeedsIn _ _ _ _ _) (sym c.moved-in-Unfit.ensures)
+    (gets_refused _ c.requires (scan_unfit (rw c.spot_of.ensures at c.scan_part.ensures) c.in-Unfit.is)))
 
 pub returns-in-Through : goal.returns-in-Through
 returns-in-Through c =

@@ -8,40 +8,38 @@ use Rattle.filling.proofs.fill.Goals as goal
 
 pub loop-edition-init : goal.loop-edition-init
 loop-edition-init c =
-    filling_start c.requires.0 (apart c.args.edition) c.start-c.ensures c.first-n.ensures c.first-m.ensures
+    filling_start c.requires (apart c.args.edition) c.start-c.ensures c.first-n.ensures c.first-m.ensures
 
 pub past_blanks-i-requires : goal.past_blanks-i-requires
-past_blanks-i-requires c = (c.loop-edition.invariant.stands.inside, search rules)
+past_blanks-i-requires c = (c.loop-edition.invariant.stands.inside)
 
 pub shape_of-links-then-i-s : goal.shape_of-links-then-i-s
 shape_of-links-then-i-s c =
-    (filling_lengths c.requires.0 c.loop-edition.invariant).0
+    (filling_lengths c.requires c.loop-edition.invariant).0
 
 pub shape_of-params-then-i-s : goal.shape_of-params-then-i-s
 shape_of-params-then-i-s c =
-    (filling_lengths c.requires.0 c.loop-edition.invariant).1
+    (filling_lengths c.requires c.loop-edition.invariant).1
 
 pub returns-then-i-s : goal.returns-then-i-s
 returns-then-i-s c =
-    filled_at_end c.requires.0 c.loop-edition.invariant c.past_blanks-i.ensures c.if-i-s.true
+    filled_at_end c.requires c.loop-edition.invariant c.past_blanks-i.ensures c.if-i-s.true
 
 pub loop-edition-preserved-then-sees : goal.loop-edition-preserved-then-sees
 loop-edition-preserved-then-sees c =
-    comma_on c.requires.0 c.loop-edition.invariant c.past_blanks-i.ensures
+    comma_on c.requires c.loop-edition.invariant c.past_blanks-i.ensures
     (c.sees.ensures.yes c.if-sees.true) c.past_octet-c.ensures
 
 pub fill_link-behind-requires : goal.fill_link-behind-requires
 fill_link-behind-requires c = (
-  before_link c.requires.0 c.loop-edition.invariant c.past_blanks-i.ensures c.if-i-s.false
-      (c.sees.ensures.not c.if-sees.false c.if-i-s.false) c.past_octet.ensures,
-  search rules,
-)
+    before_link c.requires c.loop-edition.invariant c.past_blanks-i.ensures c.if-i-s.false
+    (c.sees.ensures.not c.if-sees.false c.if-i-s.false) c.past_octet.ensures)
 
 pub next-n-requires : goal.next-n-requires
 next-n-requires c =
     omega (
       arith,
-      links_few c.requires.0 c.loop-edition.invariant c.past_blanks-i.ensures c.if-i-s.false
+      links_few c.requires c.loop-edition.invariant c.past_blanks-i.ensures c.if-i-s.false
           (c.sees.ensures.not c.if-sees.false c.if-i-s.false) c.past_octet.ensures
           c.fill_link-behind.ensures,
       c.well_formed.1.1.1.0.0,
@@ -49,19 +47,19 @@ next-n-requires c =
 
 pub shape_of-links-then-d-s : goal.shape_of-links-then-d-s
 shape_of-links-then-d-s c =
-    (lengths_kept c.requires.0 c.loop-edition.invariant c.past_blanks-i.ensures c.if-i-s.false
+    (lengths_kept c.requires c.loop-edition.invariant c.past_blanks-i.ensures c.if-i-s.false
     (c.sees.ensures.not c.if-sees.false c.if-i-s.false) c.past_octet.ensures
     c.fill_link-behind.ensures).0
 
 pub shape_of-params-then-d-s : goal.shape_of-params-then-d-s
 shape_of-params-then-d-s c =
-    (lengths_kept c.requires.0 c.loop-edition.invariant c.past_blanks-i.ensures c.if-i-s.false
+    (lengths_kept c.requires c.loop-edition.invariant c.past_blanks-i.ensures c.if-i-s.false
     (c.sees.ensures.not c.if-sees.false c.if-i-s.false) c.past_octet.ensures
     c.fill_link-behind.ensures).1
 
 pub returns-then-d-s : goal.returns-then-d-s
 returns-then-d-s c =
-    filled_behind c.requires.0 c.loop-edition.invariant c.past_blanks-i.ensures c.if-i-s.false
+    filled_behind c.requires c.loop-edition.invariant c.past_blanks-i.ensures c.if-i-s.false
     (c.sees.ensures.not c.if-sees.false c.if-i-s.false) c.past_octet.ensures
     c.fill_link-behind.ensures c.if-d-s.true
 
@@ -73,13 +71,13 @@ loop-edition-smaller c =
       c.past_blanks-i.ensures.forward,
       c.past_octet.ensures,
       c.if-d-s.false,
-      (behind_inside c.requires.0 c.loop-edition.invariant c.past_blanks-i.ensures c.if-i-s.false
+      (behind_inside c.requires c.loop-edition.invariant c.past_blanks-i.ensures c.if-i-s.false
           (c.sees.ensures.not c.if-sees.false c.if-i-s.false) c.past_octet.ensures
           c.fill_link-behind.ensures).0,
     )
 
 pub loop-edition-preserved : goal.loop-edition-preserved
 loop-edition-preserved c =
-    link_on c.requires.0 c.loop-edition.invariant c.past_blanks-i.ensures c.if-i-s.false
+    link_on c.requires c.loop-edition.invariant c.past_blanks-i.ensures c.if-i-s.false
     (c.sees.ensures.not c.if-sees.false c.if-i-s.false) c.past_octet.ensures
     c.fill_link-behind.ensures c.if-d-s.false c.past_octet-c-in-loop-edition.ensures c.next-n.ensures

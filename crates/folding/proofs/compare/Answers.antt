@@ -1,5 +1,4 @@
 -- The loop passes pairs that agree, and the first that doesn't ends it.
-use Prim.Native.Nat.{◌-◌}
 use native.Mathlib.Omega.{arith}
 use Rattle.folding.proofs.Walking.{other_lengths, none_yet, differ, agree, through}
 use Rattle.folding.proofs.compare.Goals as goal
@@ -14,27 +13,12 @@ returns-then-x-y c =
 pub loop-i-init : goal.loop-i-init
 loop-i-init c = none_yet c.if-x-y.false
 
-pub bounds-x-i : goal.bounds-x-i
-bounds-x-i c = omega arith
-
-pub bounds-y-i : goal.bounds-y-i
-bounds-y-i c = omega arith
-
-pub overflow_add-pairs : goal.overflow_add-pairs
-overflow_add-pairs c = omega arith
-
 pub returns-then-not-same_octet : goal.returns-then-not-same_octet
 returns-then-not-same_octet c =
     let all_of = differ c.loop-i.invariant (omega arith) c.same_octet.ensures c.if-not-same_octet.true-raw in record {
       same_value = all_of.0;
       pairs_value = all_of.1;
     }
-
-pub overflow_add-i : goal.overflow_add-i
-overflow_add-i c = omega arith
-
-pub loop-i-smaller : goal.loop-i-smaller
-loop-i-smaller c = omega arith
 
 pub loop-i-preserved : goal.loop-i-preserved
 loop-i-preserved c =

@@ -1,12 +1,11 @@
 -- The first link that is followed is the one that is looked for, at each turn among those that are left.
-use Prim.Native.Nat.{◌-◌}
-use native.Mathlib.Omega.{arith}
+use mathlib.Core.Path.{refl}
 use Rattle.tables.proofs.InGood.{link_slots}
 use Rattle.following.proofs.LinksLeft.{all_left, none_left, onward, here}
 use Rattle.following.proofs.first_followed.Goals as goal
 
 pub loop-i-init : goal.loop-i-init
-loop-i-init c = all_left c.first-i.ensures
+loop-i-init c = all_left refl
 
 pub is_followed-requires : goal.is_followed-requires
 is_followed-requires c =
@@ -24,17 +23,9 @@ returns-then-is_followed c =
     here c.loop-i.invariant c.loop-i-test.true c.is_followed.ensures c.requires.good c.link_at.ensures
     c.if-is_followed.true
 
-pub next-i-requires : goal.next-i-requires
-next-i-requires c =
-    omega (arith, link_slots c.requires.good c.loop-i-test.true, c.well_formed.1.0.0)
-
-pub loop-i-smaller : goal.loop-i-smaller
-loop-i-smaller c = omega (arith, c.next-i.ensures, c.loop-i-test.true)
-
 pub loop-i-preserved : goal.loop-i-preserved
 loop-i-preserved c =
-    rw c.next-i.ensures
-    (onward c.loop-i.invariant c.loop-i-test.true c.is_followed.ensures c.if-is_followed.false)
+    onward c.loop-i.invariant c.loop-i-test.true c.is_followed.ensures c.if-is_followed.false
 
 pub returns : goal.returns
 returns c = none_left c.loop-i.invariant c.loop-i-test.false

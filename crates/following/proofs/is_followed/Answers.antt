@@ -17,20 +17,20 @@ first_of-rel-requires c =
 
 pub has_run-requires : goal.has_run-requires
 has_run-requires c =
-    rel_span c.requires.usable c.requires.link_lt_links c.link_at-l.ensures c.in-Found-rel.is c.first_of-rel.ensures
+    rel_span c.requires.usable c.requires.link_lt_links c.link_at-l.ensures c.in-Some-rel.is c.first_of-rel.ensures
 
-pub returns-in-Found : goal.returns-in-Found
-returns-in-Found c =
-    anchored c.requires.usable c.requires.link_lt_links c.link_at-l.ensures c.args.relation.now c.in-Found.is
+pub returns-in-Some : goal.returns-in-Some
+returns-in-Some c =
+    anchored c.requires.usable c.requires.link_lt_links c.link_at-l.ensures c.args.relation.now c.in-Some.is
     c.first_of-anchor.ensures
 
-pub returns-in-Absent-rel : goal.returns-in-Absent-rel
-returns-in-Absent-rel c =
+pub returns-in-None-rel : goal.returns-in-None-rel
+returns-in-None-rel c =
     no_rel c.requires.usable c.requires.link_lt_links c.link_at-l.ensures c.args.relation.now
-    c.in-Absent.is c.first_of-anchor.ensures c.first_of-rel.ensures
-    c.in-Absent-rel.is
+    c.in-None.is c.first_of-anchor.ensures c.first_of-rel.ensures
+    c.in-None-rel.is
 
-pub returns-in-Found-rel : goal.returns-in-Found-rel
-returns-in-Found-rel c =
-    by_run c.requires.usable c.requires.link_lt_links c.link_at-l.ensures c.args.relation.now c.in-Absent.is
-    c.first_of-anchor.ensures c.first_of-rel.ensures c.in-Found-rel.is c.has_run.ensures
+pub returns-in-Some-rel : goal.returns-in-Some-rel
+returns-in-Some-rel c =
+    by_run c.requires.usable c.requires.link_lt_links c.link_at-l.ensures c.args.relation.now c.in-None.is
+    c.first_of-anchor.ensures c.first_of-rel.ensures c.in-Some-rel.is c.has_run.ensures

@@ -12,17 +12,15 @@ use Rattle.judging.proofs.MeantRun.{judged_all, judged_stuck, judged_lone, judge
 use Rattle.judging.proofs.is_meant_reference.Goals as goal
 
 pub loop-j-init : goal.loop-j-init
-loop-j-init c = (c.requires.0.ordered, λ e. omega arith, refl)
+loop-j-init c = (c.requires.ordered, λ e. omega arith, refl)
 
 pub slice_bounds-judge-end : goal.slice_bounds-judge-end
 slice_bounds-judge-end c =
-    sym (length-take-le c.args.part.to.0 c.args.s.now c.requires.0.inside)
+    sym (length-take-le c.args.part.to.0 c.args.s.now c.requires.inside)
 
 pub judge-j-requires : goal.judge-j-requires
 judge-j-requires c = (
-  rw (length-take-le c.args.part.to.0 c.args.s.now c.requires.0.inside) c.loop-j.invariant.0,
-  search rules,
-)
+    rw (length-take-le c.args.part.to.0 c.args.s.now c.requires.inside) c.loop-j.invariant.0)
 
 pub returns-then-k-to : goal.returns-then-k-to
 returns-then-k-to c =
@@ -31,7 +29,7 @@ returns-then-k-to c =
     c.accepts.ensures
     ∙ ap accepts
     (sym
-    (loop'.invariant.2 ∙ judged_all c.args.s.now c.requires.0.inside loop'.invariant.1 judged c.if-k-to.true))
+    (loop'.invariant.2 ∙ judged_all c.args.s.now c.requires.inside loop'.invariant.1 judged c.if-k-to.true))
 
 pub bounds-s-k : goal.bounds-s-k
 bounds-s-k c = omega arith
@@ -40,7 +38,7 @@ pub returns-then-s-k-ne92 : goal.returns-then-s-k-ne92
 returns-then-s-k-ne92 c =
     let judged = c.judge-j.ensures in
     let stuck =
-    judged_stuck c.args.s.now c.requires.0.inside c.loop-j.invariant.1 judged c.if-k-to.false c.if-s-k-ne92.true
+    judged_stuck c.args.s.now c.requires.inside c.loop-j.invariant.1 judged c.if-k-to.false c.if-s-k-ne92.true
     in
     sym (ap accepts (c.loop-j.invariant.2 ∙ stuck))
 
@@ -51,7 +49,7 @@ pub returns-then-p-to : goal.returns-then-p-to
 returns-then-p-to c =
     let judged = c.judge-j.ensures in
     let lone =
-    judged_lone c.args.s.now c.requires.0.inside c.loop-j.invariant.1 judged
+    judged_lone c.args.s.now c.requires.inside c.loop-j.invariant.1 judged
     c.if-k-to.false
     c.if-s-k-ne92.false
     c.if-p-to.true
@@ -66,7 +64,7 @@ returns-then-q-eq-NOWHERE c =
     let behind : run 0 (rest c.args.s.now c.args.part.to.0 c.args.part.from.0)
     ≡ run c.next-q.result (rest c.args.s.now c.args.part.to.0 (c.judge-j.result.at.at.0 + 1 + 1)) =
     c.loop-j.invariant.2
-    ∙ judged_pair c.args.s.now c.requires.0.inside c.loop-j.invariant.1 c.judge-j.ensures c.if-k-to.false c.if-s-k-ne92.false
+    ∙ judged_pair c.args.s.now c.requires.inside c.loop-j.invariant.1 c.judge-j.ensures c.if-k-to.false c.if-s-k-ne92.false
     c.if-p-to.false
     ∙ ap (λ (q : ℕ). run q (rest c.args.s.now c.args.part.to.0 (c.judge-j.result.at.at.0 + 1 + 1))) (sym c.next-q.ensures)
     in
@@ -86,7 +84,7 @@ loop-j-preserved c =
     let behind : run 0 (rest c.args.s.now c.args.part.to.0 c.args.part.from.0)
     ≡ run c.next-q.result (rest c.args.s.now c.args.part.to.0 (c.judge-j.result.at.at.0 + 1 + 1)) =
     c.loop-j.invariant.2
-    ∙ judged_pair c.args.s.now c.requires.0.inside c.loop-j.invariant.1 c.judge-j.ensures c.if-k-to.false c.if-s-k-ne92.false
+    ∙ judged_pair c.args.s.now c.requires.inside c.loop-j.invariant.1 c.judge-j.ensures c.if-k-to.false c.if-s-k-ne92.false
     c.if-p-to.false
     ∙ ap (λ (q : ℕ). run q (rest c.args.s.now c.args.part.to.0 (c.judge-j.result.at.at.0 + 1 + 1))) (sym c.next-q.ensures)
     in

@@ -48,7 +48,6 @@ put_params-requires c =
     record {
       good_run = rw plus'.ensures c.requires.good_run;
       first_in_bounds = rw plus'.ensures (last_room w4);
-      classes = search rules;
     }
 
 pub returns : goal.returns

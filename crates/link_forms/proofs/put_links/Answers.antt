@@ -18,9 +18,9 @@ use Rattle.link_forms.proofs.put_links.Goals as goal
 
 pub loop-i-init : goal.loop-i-init
 loop-i-init c =
-    let n = c.args.counts in
-    let t = table_of c.args.text.now c.args.links.now c.args.params.now n.links n.params in
-    rw (c.first-i.ensures, c.start-at.ensures)
+    let n = c.args.t.now.counts in
+    let t = table_of c.args.t.now.text.now c.args.t.now.links.now c.args.t.now.params.now n.links n.params in
+    rw c.start-at.ensures
     (record {
       inside = omega arith;
       put = onto (sym (whole_form t)) (begin c.args.out.now 0 (written_form t) (omega (arith, c.requires.params_in_bounds)));
@@ -34,42 +34,31 @@ pub put_parting-behind-requires : goal.put_parting-behind-requires
 put_parting-behind-requires c =
     let link-at' = c.link_at-l in
     let loop' = c.loop-i in
-    let text = c.args.text.now in
-    let links = c.args.links.now in
-    let params = c.args.params.now in
-    let n = c.args.counts.links in
+    let text = c.args.t.now.text.now in
+    let links = c.args.t.now.links.now in
+    let params = c.args.t.now.params.now in
+    let n = c.args.t.now.counts.links in
     let w = onto (links_next text links params n c.loop-i-test.true link-at'.ensures) loop'.invariant.put in
     let form = link_form text (to_link params link-at'.result) in
-    room (parting (eqb loop'.i.0 0)) (form ++ links_left text links params n (suc loop'.i.0)) w
+    room (parting (eqb loop'.i 0)) (form ++ links_left text links params n (suc loop'.i)) w
 
 pub put_link-at-requires : goal.put_link-at-requires
 put_link-at-requires c =
     let if1' = c.loop-i-test in
     let link-at' = c.link_at-l in
     let loop' = c.loop-i in
-    let text = c.args.text.now in
-    let links = c.args.links.now in
-    let params = c.args.params.now in
-    let n = c.args.counts.links in
+    let text = c.args.t.now.text.now in
+    let links = c.args.t.now.links.now in
+    let params = c.args.t.now.params.now in
+    let n = c.args.t.now.counts.links in
     let w = onto (links_next text links params n if1'.true link-at'.ensures) loop'.invariant.put in
     let form = link_form text (to_link params link-at'.result) in
-    let left = links_left text links params n (suc loop'.i.0) in
+    let left = links_left text links params n (suc loop'.i) in
     let w1 = several {left = form ++ left} w c.put_parting-behind.ensures in record {
       in_text = target_span c.requires.usable.good if1'.true link-at'.ensures;
       good_run = good_run c.requires.usable.good if1'.true link-at'.ensures;
       l_in_bounds = room form left w1;
-      classes = search rules;
     }
-
-pub next-i-requires : goal.next-i-requires
-next-i-requires c =
-    let if1' = c.loop-i-test in
-    omega (arith, link_slots c.requires.usable.good if1'.true, c.well_formed.1.0.0)
-
-pub loop-i-smaller : goal.loop-i-smaller
-loop-i-smaller c =
-    let if1' = c.loop-i-test in
-    omega (arith, c.next-i.ensures, if1'.true)
 
 pub loop-i-preserved : goal.loop-i-preserved
 loop-i-preserved c =
@@ -77,16 +66,16 @@ loop-i-preserved c =
     let link-at' = c.link_at-l in
     let loop' = c.loop-i in
     let put-parting' = c.put_parting-behind in
-    let text = c.args.text.now in
-    let links = c.args.links.now in
-    let params = c.args.params.now in
-    let n = c.args.counts.links in
+    let text = c.args.t.now.text.now in
+    let links = c.args.t.now.links.now in
+    let params = c.args.t.now.params.now in
+    let n = c.args.t.now.counts.links in
     let w = onto (links_next text links params n if1'.true link-at'.ensures) loop'.invariant.put in
     let form = link_form text (to_link params link-at'.result) in
-    let left = links_left text links params n (suc loop'.i.0) in
+    let left = links_left text links params n (suc loop'.i) in
     let w1 = several {left = form ++ left} w put-parting'.ensures in
     let w2 = several {left = left} w1 c.put_link-at.ensures in
-    rw c.next-i.ensures (next if1'.true w2)
+    next if1'.true w2
 
 pub shape_of-out : goal.shape_of-out
 shape_of-out c = c.loop-i.invariant.put.lengths
@@ -94,6 +83,6 @@ shape_of-out c = c.loop-i.invariant.put.lengths
 pub returns : goal.returns
 returns c =
     let loop' = c.loop-i in
-    let text = c.args.text.now in
-    let links = c.args.links.now in
-    ended loop'.invariant (links_end text links c.args.params.now c.args.counts.links c.loop-i-test.false)
+    let text = c.args.t.now.text.now in
+    let links = c.args.t.now.links.now in
+    ended loop'.invariant (links_end text links c.args.t.now.params.now c.args.t.now.counts.links c.loop-i-test.false)

@@ -8,15 +8,15 @@ use Rattle.link_lines.proofs.put_answer.Goals as goal
 
 pub slice_bounds-put_line-end : goal.slice_bounds-put_line-end
 slice_bounds-put_line-end c =
-    first_cut c.args.target.now c.args.context.now c.requires.holds c.in-Resolved.is
+    first_cut c.args.target.now c.args.context.now c.requires.holds c.in-Ok.is
 
-pub slice_bounds-put_line-end-in-Resolved : goal.slice_bounds-put_line-end-in-Resolved
-slice_bounds-put_line-end-in-Resolved c =
-    second_cut c.args.target.now c.args.context.now c.requires.holds c.in-Resolved.is
+pub slice_bounds-put_line-end-in-Ok : goal.slice_bounds-put_line-end-in-Ok
+slice_bounds-put_line-end-in-Ok c =
+    second_cut c.args.target.now c.args.context.now c.requires.holds c.in-Ok.is
 
 pub put_line-requires : goal.put_line-requires
 put_line-requires c =
-    line_room c.args.target.now c.args.context.now c.requires.holds c.in-Resolved.is c.requires.context_in_bounds
+    line_room c.args.target.now c.args.context.now c.requires.holds c.in-Ok.is c.requires.context_in_bounds
 
 pub copy_line-requires : goal.copy_line-requires
 copy_line-requires c =
@@ -24,12 +24,12 @@ copy_line-requires c =
     let most : length l.result.octets ≡ 160 = search rules in
     (l.ensures.fits, omega (arith, most, l.ensures.fits.0, c.requires.context_in_bounds))
 
-pub returns-in-Resolved : goal.returns-in-Resolved
-returns-in-Resolved c = rw c.in-Resolved.is c.put_line.ensures
+pub returns-in-Ok : goal.returns-in-Ok
+returns-in-Ok c = rw c.in-Ok.is c.put_line.ensures
 
-pub returns-in-Refused : goal.returns-in-Refused
-returns-in-Refused c =
+pub returns-in-Err : goal.returns-in-Err
+returns-in-Err c =
     record {
-      put = rw c.in-Refused.is (rw c.refused_line.ensures.is at c.copy_line.ensures.put);
+      put = rw c.in-Err.is (rw c.refused_line.ensures.is at c.copy_line.ensures.put);
       upper_bound = c.copy_line.ensures.upper_bound;
     }

@@ -2,4 +2,4 @@
 use Rattle.link_lines.proofs.refused_line.Goals as goal
 
 pub returns : goal.returns
-returns c = rw c.numbers.ensures at c.refusal_line.ensures
+returns c = rw c.into.ensures at c.refusal_line.ensures

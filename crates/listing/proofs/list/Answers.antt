@@ -4,8 +4,8 @@ use Rattle.listing.proofs.list.Goals as goal
 
 pub put_table-requires : goal.put_table-requires
 put_table-requires c =
-    done_held c.read-answer.ensures c.in-Done.is
+    done_held c.read-answer.ensures c.in-Ok.is
 
-pub returns-in-Done : goal.returns-in-Done
-returns-in-Done c =
-    rw c.in-Done.is at c.read-answer.ensures
+pub returns-in-Ok : goal.returns-in-Ok
+returns-in-Ok c =
+    rw c.in-Ok.is at c.read-answer.ensures

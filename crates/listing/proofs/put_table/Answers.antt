@@ -4,7 +4,7 @@ use Rattle.listing.proofs.TableLeft.{begin, link_room, params_inside, on}
 use Rattle.listing.proofs.put_table.Goals as goal
 
 pub loop-i-init : goal.loop-i-init
-loop-i-init c = begin c.requires c.first-i.ensures
+loop-i-init c = begin c.requires
 
 pub link_at-l-requires : goal.link_at-l-requires
 link_at-l-requires c = link_room c.loop-i.invariant c.loop-i-test.true
@@ -16,4 +16,3 @@ put_params-requires c =
 pub loop-i-preserved : goal.loop-i-preserved
 loop-i-preserved c =
     on c.loop-i.invariant c.loop-i-test.true
-    c.next-i.ensures

@@ -21,26 +21,20 @@ loop-i-smaller c = omega (arith, c.loop-i-test.true)
 pub loop-i-preserved : goal.loop-i-preserved
 loop-i-preserved c = block_before 16 c.loop-i.invariant (omega (arith, c.loop-i-test.true)) (c.is_same_block.ensures c.if-is_same_block.true)
 
-pub loop-i-2-init : goal.loop-i-2-init
-loop-i-2-init c = c.loop-i.invariant
+pub loop-k-init : goal.loop-k-init
+loop-k-init c = c.loop-i.invariant
 
-pub overflow_sub-i-in-loop-i-2 : goal.overflow_sub-i-in-loop-i-2
-overflow_sub-i-in-loop-i-2 c = omega (arith, c.loop-i-2-test.true)
+pub bounds-u-k : goal.bounds-u-k
+bounds-u-k c = omega (arith, c.loop-k.invariant.inside, c.loop-k-test.true)
 
-pub bounds-u-i : goal.bounds-u-i
-bounds-u-i c = omega (arith, c.loop-i-2.invariant.inside, c.loop-i-2-test.true)
+pub bounds-v-k : goal.bounds-v-k
+bounds-v-k c = omega (arith, c.loop-k.invariant.inside, c.loop-k.invariant.lengths, c.loop-k-test.true)
 
-pub bounds-v-i : goal.bounds-v-i
-bounds-v-i c = omega (arith, c.loop-i-2.invariant.inside, c.loop-i-2.invariant.lengths, c.loop-i-2-test.true)
+pub returns-then-u-k : goal.returns-then-u-k
+returns-then-u-k c = other_octet c.args.u.now c.args.v.now (c.loop-k.k - 1) c.if-u-k.true
 
-pub returns-then-u-i : goal.returns-then-u-i
-returns-then-u-i c = other_octet c.args.u.now c.args.v.now (c.loop-i-2.i - 1) c.if-u-i.true
-
-pub loop-i-2-smaller : goal.loop-i-2-smaller
-loop-i-2-smaller c = omega (arith, c.loop-i-2-test.true)
-
-pub loop-i-2-preserved : goal.loop-i-2-preserved
-loop-i-2-preserved c = one_before c.loop-i-2.invariant c.loop-i-2-test.true c.if-u-i.false
+pub loop-k-preserved : goal.loop-k-preserved
+loop-k-preserved c = one_before c.loop-k.invariant c.loop-k-test.true c.if-u-k.false
 
 pub returns : goal.returns
-returns c = same_all c.loop-i-2.invariant c.loop-i-2-test.false
+returns c = same_all c.loop-k.invariant c.loop-k-test.false

@@ -9,8 +9,5 @@ invariant-loop-i l = SameFrom l.u l.v l.i
 abbrev pub decreases-loop-i : goal.decreases-loop-i
 decreases-loop-i l = l.i
 
-abbrev pub invariant-loop-i-2 : goal.invariant-loop-i-2
-invariant-loop-i-2 l = SameFrom l.u l.v l.i
-
-abbrev pub decreases-loop-i-2 : goal.decreases-loop-i-2
-decreases-loop-i-2 l = l.i
+abbrev pub invariant-loop-k : goal.invariant-loop-k
+invariant-loop-k l = SameFrom l.u l.v l.k

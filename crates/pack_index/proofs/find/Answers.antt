@@ -25,12 +25,6 @@ returns-then-are_same c =
     let told = compared c.requires l c.places_at-places.ensures c.args.uri.now c.are_same.ensures in
     (l, told ∙ c.if-are_same.true, at.invariant.others)
 
-pub overflow_add-i : goal.overflow_add-i
-overflow_add-i c = omega (arith, c.loop-i-test.true)
-
-pub loop-i-smaller : goal.loop-i-smaller
-loop-i-smaller c = omega (arith, c.loop-i-test.true)
-
 pub loop-i-preserved : goal.loop-i-preserved
 loop-i-preserved c =
     let l = c.loop-i-test.true in

@@ -1,10 +1,6 @@
 -- No pack before number i has the URI.
-use Prim.Native.Nat.{◌-◌}
 use Rattle.pack_index.proofs.Finding.{OthersUpTo}
 use Rattle.pack_index.proofs.find.Given as goal
 
 abbrev pub invariant-loop-i : goal.invariant-loop-i
 invariant-loop-i l = OthersUpTo l.text l.index l.count l.uri l.i
-
-abbrev pub decreases-loop-i : goal.decreases-loop-i
-decreases-loop-i l = l.count - l.i

@@ -6,14 +6,14 @@ use Rattle.pack_walk.proofs.+walk_on.Goals as goal
 
 pub returns-then-left-eq0 : goal.returns-then-left-eq0
 returns-then-left-eq0 t c =
-    let g = c.args in no_steps g.s.now g.index.now g.count _ _ (relation_on g.way) g.pack g.taken c.if-left-eq0.true
+    let g = c.args in no_steps g.s.now g.index.now g.count _ _ (relation_on g.way) g.pack g.steps c.if-left-eq0.true
 
 pub walk_on-requires : goal.walk_on-requires
 walk_on-requires t c =
     let g = c.args in
     let kept = c.step-stepped.auto in
-    let below = next_below g.s.now g.index.now g.count _ _ (relation_on g.way) g.pack g.taken c.step-stepped.result
-    c.step-stepped.ensures c.requires.0 c.in-To.is
+    let below = next_below g.s.now g.index.now g.count _ _ (relation_on g.way) g.pack g.steps c.step-stepped.result
+    c.step-stepped.ensures c.requires.0 c.in-Ok.is
     in (
       omega (arith, c.decreases, c.if-left-eq0.false),
       (
@@ -24,17 +24,17 @@ walk_on-requires t c =
       ),
     )
 
-pub returns-in-Stop : goal.returns-in-Stop
-returns-in-Stop t c =
+pub returns-in-Err : goal.returns-in-Err
+returns-in-Err t c =
     let g = c.args in
-    stops g.s.now g.index.now g.count _ _ (relation_on g.way) g.pack g.taken c.step-stepped.result c.step-stepped.ensures
-    g.left c.if-left-eq0.false c.in-Stop.is
+    stops g.s.now g.index.now g.count _ _ (relation_on g.way) g.pack g.steps c.step-stepped.result c.step-stepped.ensures
+    g.left c.if-left-eq0.false c.in-Err.is
 
-pub returns-in-To : goal.returns-in-To
-returns-in-To t c =
+pub returns-in-Ok : goal.returns-in-Ok
+returns-in-Ok t c =
     let g = c.args in
     let kept = c.step-stepped.auto in
     let on = c.walk_on in
-    goes g.s.now g.index.now g.count _ _ (relation_on g.way) g.pack g.taken c.step-stepped.result c.step-stepped.ensures
-    g.left c.if-left-eq0.false c.in-To.is on.result
+    goes g.s.now g.index.now g.count _ _ (relation_on g.way) g.pack g.steps c.step-stepped.result c.step-stepped.ensures
+    g.left c.if-left-eq0.false c.in-Ok.is on.result
     (walks_alike kept.links kept.params (relation_on g.way) _ _ _ on.result on.ensures)

@@ -25,12 +25,6 @@ returns-then-has c =
     repeated c.loop-k.invariant c.loop-k-test.true c.plus.ensures c.param_at-p.ensures so
     c.has.ensures c.if-has.true
 
-pub overflow_add-k : goal.overflow_add-k
-overflow_add-k c = omega (arith, c.loop-k-test.true)
-
-pub loop-k-smaller : goal.loop-k-smaller
-loop-k-smaller c = omega (arith, c.loop-k-test.true)
-
 pub loop-k-preserved : goal.loop-k-preserved
 loop-k-preserved c =
     let so = c.is_good_param.ensures.holds (not-false _ c.if-not-is_good_param.false-raw) in

@@ -10,7 +10,7 @@ returns-then-told-code c = not_so (λ g. c.if-told-code.true (c.code-told.ensure
 pub returns-then-code-gt0 : goal.returns-then-code-gt0
 returns-then-code-gt0 c =
     let code = sym c.if-told-code.false ∙ c.code-told.ensures in
-    is_so (record { token = known_token c.args.s.now c.requires.0 code c.if-code-gt0.true; code = code })
+    is_so (record { token = known_token c.args.s.now c.requires code c.if-code-gt0.true; code = code })
 
 pub returns : goal.returns
 returns c =

@@ -6,10 +6,10 @@ use Rattle.part_check.proofs.Deciding.{also, not_so}
 use Rattle.param_check.proofs.is_good_param.Goals as goal
 
 pub is_good_value-requires : goal.is_good_value-requires
-is_good_value-requires c = (c.is_span-then-is_span.ensures.holds c.if-is_span-2.true, search rules)
+is_good_value-requires c = (c.is_span-then-is_span.ensures.holds c.if-is_span-2.true)
 
 pub is_good_name-requires : goal.is_good_name-requires
-is_good_name-requires c = (c.is_span.ensures.holds c.if-is_span.true, search rules)
+is_good_name-requires c = (c.is_span.ensures.holds c.if-is_span.true)
 
 pub returns-then-is_good_value : goal.returns-then-is_good_value
 unfolding name_of

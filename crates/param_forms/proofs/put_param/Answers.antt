@@ -53,7 +53,6 @@ put_value-requires c =
     record {
       good_param = c.requires.good_param;
       p_in_bounds = last_room (several w2 c.put-value.ensures);
-      classes = search rules;
     }
 
 pub returns : goal.returns

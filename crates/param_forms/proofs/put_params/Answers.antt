@@ -29,19 +29,8 @@ put_param-to-requires c =
     let form = param_form c.args.text.now (to_param parts-at'.result) in
     let next_one = params_next c.args.text.now c.args.params.now if1'.true parts-at'.ensures in record {
       good_param = good_next c.requires.good_run loop'.invariant.0 if1'.true parts-at'.ensures;
-      p_in_bounds = slots loop'.invariant.1 form loop'.p.0 next_one;
-      classes = search rules;
+      p_in_bounds = slots loop'.invariant.1 form loop'.p next_one;
     }
-
-pub next-p-requires : goal.next-p-requires
-next-p-requires c =
-    let loop' = c.loop-p in
-    omega (arith, in_room c.requires.good_run loop'.invariant.0 c.loop-p-test.true, c.well_formed.1.0.0)
-
-pub loop-p-smaller : goal.loop-p-smaller
-loop-p-smaller c =
-    let if1' = c.loop-p-test in
-    omega (arith, c.next-p.ensures, if1'.true)
 
 pub loop-p-preserved : goal.loop-p-preserved
 loop-p-preserved c =
@@ -51,8 +40,8 @@ loop-p-preserved c =
     let put-param' = c.put_param-to in
     let form = param_form c.args.text.now (to_param parts-at'.result) in
     let next_one = params_next c.args.text.now c.args.params.now if1'.true parts-at'.ensures in (
-      omega (arith, loop'.invariant.0, c.next-p.ensures),
-      rw c.next-p.ensures (steps loop'.invariant.1 form loop'.p.0 next_one if1'.true put-param'.ensures),
+      omega (arith, loop'.invariant.0),
+      steps loop'.invariant.1 form loop'.p next_one if1'.true put-param'.ensures,
     )
 
 pub shape_of-out : goal.shape_of-out

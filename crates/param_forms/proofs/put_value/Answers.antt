@@ -5,7 +5,7 @@ use borrow.Author.Rules.{rules}
 use Rattle.param_forms.proofs.put_value.Goals as goal
 
 pub is_bare-requires : goal.is_bare-requires
-is_bare-requires c = (c.requires.good_param, search rules)
+is_bare-requires c = (c.requires.good_param)
 
 pub copy_meaning-requires : goal.copy_meaning-requires
 copy_meaning-requires c =

@@ -17,7 +17,7 @@ loop-last-init c =
     (none_yet _ _ _ (subst Normal (sym n.ensures) (normal_is_normal a.from)))
 
 pub go_on-requires : goal.go_on-requires
-go_on-requires c = (c.loop-last.invariant.inside, c.requires.0, c.loop-last.invariant.is_normal, search rules)
+go_on-requires c = (c.loop-last.invariant.inside, c.requires, c.loop-last.invariant.is_normal)
 
 pub returns-in-End : goal.returns-in-End
 returns-in-End c =

@@ -2,23 +2,22 @@
 use native.Mathlib.Omega.{arith}
 use mathlib.Core.Path.{ap}
 use lib.ListN.{length}
-use lib.Seq.{take-length}
+use Rattle.kinds.proofs.UpTo.{all_of}
 use Rattle.put_columns.proofs.Behind.{then}
 use Rattle.put_columns.proofs.put_column.Goals as goal
 
 pub put_part-behind-requires : goal.put_part-behind-requires
 put_part-behind-requires c =
-    let s = c.args.s.now in
+    let part = c.up_to.ensures in
     record {
-      in_text = record { ordered = omega arith; inside = omega arith };
-      s_in_bounds = omega (arith, ap length (take-length s), c.requires);
+      in_text = record { ordered = omega (arith, part); inside = omega (arith, part) };
+      s_in_bounds = omega (arith, ap length (all_of c.args.s.now part), c.requires);
     }
 
 pub put-requires : goal.put-requires
 put-requires c =
-    let s = c.args.s.now in
-    omega (arith, ap length (take-length s), c.requires, c.put_part-behind.ensures.place)
+    omega (arith, ap length (all_of c.args.s.now c.up_to.ensures), c.requires, c.put_part-behind.ensures.place)
 
 pub returns : goal.returns
 returns c =
-    then (rw (take-length c.args.s.now) at c.put_part-behind.ensures) c.put.ensures
+    then (rw (all_of c.args.s.now c.up_to.ensures) at c.put_part-behind.ensures) c.put.ensures

@@ -4,4 +4,4 @@ use Rattle.outcomes.specs.Read.{too_long}
 use Rattle.reader.proofs.read_in.Goals as goal
 
 pub returns-then-n-gt-LIMIT : goal.returns-then-n-gt-LIMIT
-returns-then-n-gt-LIMIT c = too_long (omega (arith, c.if-n-gt-LIMIT.true))
+returns-then-n-gt-LIMIT c = rw c.into.ensures (too_long (omega (arith, c.if-n-gt-LIMIT.true)))

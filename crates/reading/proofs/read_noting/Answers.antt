@@ -6,30 +6,30 @@ use Rattle.reading.proofs.read_noting.Goals as goal
 
 pub returns-then-link_room-counts : goal.returns-then-link_room-counts
 returns-then-link_room-counts c =
-    few_link_slots _ _ _ c.requires.0 c.scan.ensures c.in-Counted.is c.link_room-link_room.ensures c.if-link_room-counts.true
+    rw c.into.ensures
+    (few_link_slots _ _ _ c.requires c.in-Ok.ensures c.link_room-link_room.ensures c.if-link_room-counts.true)
 
 pub returns-then-param_room-counts : goal.returns-then-param_room-counts
 returns-then-param_room-counts c =
-    few_param_slots _ _ _ c.requires.0 c.scan.ensures c.in-Counted.is c.link_room-link_room.ensures c.param_room-param_room.ensures c.if-link_room-counts.false c.if-param_room-counts.true
+    rw c.into-then-param_room-counts.ensures
+    (few_param_slots _ _ _ c.requires c.in-Ok.ensures c.link_room-link_room.ensures c.param_room-param_room.ensures c.if-link_room-counts.false c.if-param_room-counts.true)
 
 pub fill-requires : goal.fill-requires
 fill-requires c =
     record {
       reading_fits = (
-        fits c.args.edition _ _ c.requires.0 c.scan.ensures c.in-Counted.is c.link_room-link_room.ensures
-            c.param_room-param_room.ensures c.if-link_room-counts.false c.if-param_room-counts.false,
-        search rules,
-      );
+          fits c.args.edition _ _ c.requires c.in-Ok.ensures c.link_room-link_room.ensures
+          c.param_room-param_room.ensures c.if-link_room-counts.false c.if-param_room-counts.false);
       header_noted = (
-        noted c.args.edition c.args.links.now c.args.params.now c.requires.0 c.scan.ensures c.in-Counted.is,
-        omega (arith, c.requires.0),
+        noted c.args.edition c.args.links.now c.args.params.now c.requires c.in-Ok.ensures,
+        omega (arith, c.requires),
       );
     }
 
-pub returns-in-Malformed : goal.returns-in-Malformed
-returns-in-Malformed c =
-    is_malformed _ _ _ c.requires.0 c.scan.ensures c.in-Malformed.is
+pub returns-in-Err : goal.returns-in-Err
+returns-in-Err c =
+    is_malformed _ _ _ c.requires c.in-Err.ensures
 
-pub returns-else-param_room-counts : goal.returns-else-param_room-counts
-returns-else-param_room-counts c =
-    is_done _ _ _ c.requires.0 c.scan.ensures c.in-Counted.is c.link_room-link_room.ensures c.param_room-param_room.ensures c.if-link_room-counts.false c.if-param_room-counts.false c.fill.ensures
+pub returns : goal.returns
+returns c =
+    is_done _ _ _ c.requires c.in-Ok.ensures c.link_room-link_room.ensures c.param_room-param_room.ensures c.if-link_room-counts.false c.if-param_room-counts.false c.fill.ensures

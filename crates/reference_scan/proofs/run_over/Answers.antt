@@ -11,9 +11,7 @@ slice_bounds-judge-end c =
 
 pub judge-j-requires : goal.judge-j-requires
 judge-j-requires c = (
-  rw (length-take-le c.args.part.to.0 c.args.s.now c.requires.1) c.requires.0,
-  search rules,
-)
+    rw (length-take-le c.args.part.to.0 c.args.s.now c.requires.1) c.requires.0)
 
 pub returns-then-j-to : goal.returns-then-j-to
 returns-then-j-to c =

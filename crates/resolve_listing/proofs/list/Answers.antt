@@ -6,10 +6,10 @@ use Rattle.resolve_listing.proofs.list.Goals as goal
 pub put_on_base-requires : goal.put_on_base-requires
 put_on_base-requires c =
     record {
-      targets_held = done_targets c.read-answer.ensures c.in-Done.is;
+      targets_held = done_targets c.read-answer.ensures c.in-Ok.is;
       context_in_bounds = search rules;
     }
 
-pub returns-in-Done : goal.returns-in-Done
-returns-in-Done c =
-    rw c.in-Done.is at c.read-answer.ensures
+pub returns-in-Ok : goal.returns-in-Ok
+returns-in-Ok c =
+    rw c.in-Ok.is at c.read-answer.ensures

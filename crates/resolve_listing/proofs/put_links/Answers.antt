@@ -7,7 +7,7 @@ use Rattle.resolve_listing.proofs.put_links.Goals as goal
 pub put_link-n-requires : goal.put_link-n-requires
 put_link-n-requires c =
     record {
-      target_held = c.requires.targets_held c.loop-i.i.0 c.loop-i-test.true;
+      target_held = c.requires.targets_held c.loop-i.i c.loop-i-test.true;
       context_in_bounds = omega (arith, c.requires.context_in_bounds, c.loop-i.invariant);
     }
 

@@ -2,10 +2,6 @@
 use native.Mathlib.Omega.{arith}
 use Rattle.routing.proofs.Rooting.{cut_clean}
 use Rattle.routing.proofs.Planning.{by_slash, by_merge}
-use Rattle.routing.proofs.by_path.Reads as reads
-use Rattle.routing.proofs.by_path.Lts as lts
-use Rattle.routing.proofs.root.Reads as root-reads
-use Rattle.routing.proofs.up_to.Reads as up-to-reads
 use Rattle.routing.proofs.by_path.Goals as goal
 
 pub bounds-s-at : goal.bounds-s-at

@@ -6,7 +6,5 @@ use Rattle.bare.specs.Bare.{bare_of}
 use Rattle.routing.proofs.folder_end.Given as goal
 
 abbrev pub invariant-loop-i : goal.invariant-loop-i
-invariant-loop-i l = (l.first ≤ l.i) × (l.i ≤ l.initial.i) × (folder (bare_of l.s l.first l.initial.i) ≡ folder (bare_of l.s l.first l.i))
-
-abbrev pub decreases-loop-i : goal.decreases-loop-i
-decreases-loop-i l = l.i
+invariant-loop-i l =
+    (l.i-start ≤ l.i) × (folder (bare_of l.s l.i-start l.initial.i) ≡ folder (bare_of l.s l.i-start l.i))

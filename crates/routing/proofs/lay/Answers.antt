@@ -1,10 +1,6 @@
 -- Some of the folder stays, or all of it goes.
 use native.Mathlib.Omega.{arith}
 use Rattle.routing.proofs.Laying.{own_trimmed, own_whole}
-use Rattle.routing.proofs.lay.Reads as reads
-use Rattle.routing.proofs.lay.Lts as lts
-use Rattle.routing.proofs.route_of.Reads as route-of-reads
-use Rattle.leading_dots.proofs.trim.Reads as trim-reads
 use Rattle.routing.proofs.lay.Goals as goal
 
 pub trim-from-requires : goal.trim-from-requires

@@ -1,10 +1,6 @@
 -- One case for each kind of reference.
 use Rattle.routing.proofs.Rooting.{cut_clean}
 use Rattle.routing.proofs.Planning.{by_scheme, by_authority, by_query, by_nothing}
-use Rattle.routing.proofs.planned.Reads as reads
-use Rattle.routing.proofs.planned.Lts as lts
-use Rattle.routing.proofs.by_path.Reads as by-path-reads
-use Rattle.routing.proofs.up_to.Reads as up-to-reads
 use Rattle.routing.proofs.planned.Goals as goal
 
 pub returns-then-r : goal.returns-then-r

@@ -1,11 +1,7 @@
 -- A slash of the authority, or the folder.
-use mathlib.Core.Logic.{⊎_elim, inl, inr}
-use borrow.Author.Tests.{ltb-true, ltb-false}
+use mathlib.Core.Logic.{inl, inr}
+use borrow.Author.Tests.{ltb-true}
 use Rattle.routing.proofs.Rooting.{cut_clean, slash_root, folder_root}
-use Rattle.routing.proofs.root.Reads as reads
-use Rattle.routing.proofs.root.Lts as lts
-use Rattle.kinds.proofs.Place.next.Reads as next-reads
-use Rattle.routing.proofs.folder_end.Reads as folder-end-reads
 use Rattle.routing.proofs.root.Goals as goal
 use Rattle.routing.proofs.root.Goals.{else-query-path-via-then-query-path+else-scheme-path, else-query-path-via-else-query-path}
 

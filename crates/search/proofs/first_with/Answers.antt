@@ -18,17 +18,17 @@ plus-end-requires c =
     let link-at' = c.link_at-link in
     omega (
       arith,
-      params_slots c.requires.good c.if-l-counts.false,
+      params_slots c.requires.good c.if-l-t.false,
       link-at'.ensures.first,
       link-at'.ensures.count,
-      c.well_formed.1.1.0.0,
+      c.told-t,
     )
 
 pub loop-p-init : goal.loop-p-init
 loop-p-init c =
     rw
     c.plus-end.ensures
-    (first_param c.args.relation.now c.requires c.if-l-counts.false c.link_at-link.ensures)
+    (first_param c.args.relation.now c.requires c.if-l-t.false c.link_at-link.ensures)
 
 pub code_at-requires : goal.code_at-requires
 code_at-requires c = in_room c.loop-p.invariant.looking c.loop-p-test.true
@@ -73,7 +73,7 @@ loop-p-preserved-then-code_at-eq-REL c =
 
 pub next-p-requires : goal.next-p-requires
 next-p-requires c =
-    omega (arith, in_room c.loop-p.invariant.looking c.loop-p-test.true, c.well_formed.1.1.0.0)
+    omega (arith, in_room c.loop-p.invariant.looking c.loop-p-test.true, c.told-t)
 
 pub loop-p-smaller : goal.loop-p-smaller
 loop-p-smaller c = omega (arith, c.next-p.ensures, c.loop-p-test.true)
@@ -84,16 +84,16 @@ loop-p-preserved c =
     (next_param c.loop-p.invariant c.loop-p-test.true c.code_at.ensures c.if-code_at-eq-REL.false)
 
 pub search-smaller : goal.search-smaller
-search-smaller c = omega (arith, c.next-l.ensures, c.if-l-counts.false)
+search-smaller c = omega (arith, c.next-l.ensures, c.if-l-t.false)
 
 pub search-preserved : goal.search-preserved
 search-preserved c =
     let search' = c.search in rw c.next-l.ensures
     (one_more search'.invariant (none_related c.loop-p.invariant c.loop-p-test.false))
 
-pub returns-then-l-counts : goal.returns-then-l-counts
-returns-then-l-counts c =
-    no_link (λ i h. c.search.invariant i (omega (arith, c.if-l-counts.true)))
+pub returns-then-l-t : goal.returns-then-l-t
+returns-then-l-t c =
+    no_link (λ i h. c.search.invariant i (omega (arith, c.if-l-t.true)))
 
 pub returns-then-m : goal.returns-then-m
 returns-then-m c =

@@ -10,21 +10,21 @@ use Rattle.search.proofs.first_with.Given as goal
 
 abbrev pub invariant-loop-k : goal.invariant-loop-k
 invariant-loop-k l =
-    AmongRuns l.text l.relation (has (table_of l.text l.links l.params l.counts.links l.counts.params) l.relation l.l.0) l.e.0 l.k.0
+    AmongRuns l.t.text.now l.relation (has (table_of l.t.text.now l.t.links.now l.t.params.now l.t.counts.links l.t.counts.params) l.relation l.l.0) l.e.0 l.k.0
 
 abbrev pub decreases-loop-k : goal.decreases-loop-k
 decreases-loop-k l = l.e.0 - l.k.0
 
 abbrev pub invariant-loop-p : goal.invariant-loop-p
 invariant-loop-p l =
-    AmongParams (table_of l.text l.links l.params l.counts.links l.counts.params) l.relation l.l.0 l.end.0 l.p.0
+    AmongParams (table_of l.t.text.now l.t.links.now l.t.params.now l.t.counts.links l.t.counts.params) l.relation l.l.0 l.end.0 l.p.0
 
 abbrev pub decreases-loop-p : goal.decreases-loop-p
 decreases-loop-p l = l.end.0 - l.p.0
 
 abbrev pub invariant-search : goal.invariant-search
 invariant-search l =
-    (j : ℕ) → j < l.l.0 → has (table_of l.text l.links l.params l.counts.links l.counts.params) l.relation j ≡ false
+    (j : ℕ) → j < l.l.0 → has (table_of l.t.text.now l.t.links.now l.t.params.now l.t.counts.links l.t.counts.params) l.relation j ≡ false
 
 abbrev pub decreases-search : goal.decreases-search
-decreases-search l = l.counts.links - l.l.0
+decreases-search l = l.t.counts.links - l.l.0

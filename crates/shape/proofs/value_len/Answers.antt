@@ -13,7 +13,6 @@ quoted_len-requires c =
       in_text = c.requires.good_param.value_span;
       inside = quoted_inside c.requires.good_param c.if-p-eq-QUOTED.true;
       s_len_bound = c.requires.text_len_bound;
-      classes = search rules;
     }
 
 pub returns-then-p-eq-QUOTED : goal.returns-then-p-eq-QUOTED

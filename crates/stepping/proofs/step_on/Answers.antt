@@ -1,5 +1,5 @@
 -- The Link value is accepted, so reading it again refuses nothing.
-use Rattle.accepting.proofs.Accepting.{malformed_refused, refusal_refused}
+use Rattle.accepting.proofs.Accepting.{answer_tells}
 use Rattle.stepping.proofs.OnPack.{done_table}
 use Rattle.stepping.proofs.step_on.Goals as goal
 
@@ -7,11 +7,10 @@ pub step_along-requires : goal.step_along-requires
 step_along-requires c =
     record {
       stands = c.requires.stands;
-      table_read = done_table c.read_in-answer.ensures c.in-Done.is;
+      table_read = done_table c.read_in-answer.ensures c.in-Ok.is;
     }
 
-pub returns-in-Malformed : goal.returns-in-Malformed
-returns-in-Malformed c = absurd (malformed_refused c.read_in-answer.ensures c.in-Malformed.is c.requires.accepted)
-
-pub returns-in-Refused : goal.returns-in-Refused
-returns-in-Refused c = absurd (refusal_refused c.read_in-answer.ensures c.in-Refused.is c.requires.accepted)
+pub returns-in-Err : goal.returns-in-Err
+returns-in-Err c =
+    let told = answer_tells c.read_in-answer.result c.read_in-answer.ensures in
+    absurd (rw c.in-Err.is at told c.requires.accepted)

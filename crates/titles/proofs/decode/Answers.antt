@@ -11,15 +11,15 @@ returns-then-end-gt-LIMIT c = too_long c.if-end-gt-LIMIT.true
 
 pub write_given-requires : goal.write_given-requires
 write_given-requires c =
-    let right = rw c.in-Right.is at c.judge-judged.ensures in
-    (omega arith, right_given right, right_counted right, search rules)
+    let right = rw c.in-Some.is at c.judge-judged.ensures in
+    (omega arith, right_given right, right_counted right)
 
-pub returns-in-Wrong : goal.returns-in-Wrong
-returns-in-Wrong c =
-    let wrong = rw c.in-Wrong.is at c.judge-judged.ensures in
+pub returns-in-None : goal.returns-in-None
+returns-in-None c =
+    let wrong = rw c.in-None.is at c.judge-judged.ensures in
     is_wrong c.args.value.now c.if-end-gt-LIMIT.false c.args.out.now wrong
 
-pub returns-in-Right : goal.returns-in-Right
-returns-in-Right c =
-    let right = rw c.in-Right.is at c.judge-judged.ensures in
+pub returns-in-Some : goal.returns-in-Some
+returns-in-Some c =
+    let right = rw c.in-Some.is at c.judge-judged.ensures in
     is_given_lem c.args.value.now c.if-end-gt-LIMIT.false right c.write_given.ensures

@@ -4,12 +4,12 @@ use Rattle.units.proofs.look.Goals as goal
 
 pub returns-then-k-e : goal.returns-then-k-e
 returns-then-k-e c =
-    at_its_end c.args.escapes c.args.s.now c.if-k-e.true
+    at_its_end c.args.how c.args.s.now c.if-k-e.true
 
 pub returns-then-c-ne92 : goal.returns-then-c-ne92
 returns-then-c-ne92 c =
     let before_end = c.if-k-e.false in
-    reads_octet (plain c.args.escapes c.args.s.now c.if-c-ne92.true before_end c.requires) before_end
+    reads_octet (plain c.args.how c.args.s.now c.if-c-ne92.true before_end c.requires) before_end
     c.next.ensures
 
 pub returns-then-p-e : goal.returns-then-p-e

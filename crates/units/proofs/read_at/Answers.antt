@@ -1,10 +1,10 @@
--- Through backslashes it is the octet meant, and else the one there.
+-- Behind a backslash it is the octet meant, and else the one there.
 use Rattle.units.proofs.Looking.{meant, stands}
 use Rattle.units.proofs.read_at.Goals as goal
 
-pub returns-then-escapes : goal.returns-then-escapes
-returns-then-escapes c = meant c.if-escapes.true c.meant_at.ensures
+pub returns-in-Unescaped : goal.returns-in-Unescaped
+returns-in-Unescaped c = meant c.in-Unescaped.is c.meant_at.ensures
 
-pub returns-else-escapes : goal.returns-else-escapes
-returns-else-escapes c =
-    stands c.args.s.now c.if-escapes.false c.requires.0 c.requires.1
+pub returns-in-AsItStands : goal.returns-in-AsItStands
+returns-in-AsItStands c =
+    stands c.args.s.now c.in-AsItStands.is c.requires.0 c.requires.1

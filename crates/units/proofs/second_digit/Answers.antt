@@ -5,20 +5,16 @@ use Rattle.units.proofs.second_digit.Goals as goal
 
 pub tripled_octet-requires : goal.tripled_octet-requires
 tripled_octet-requires c =
-    (c.requires.1, sym c.is_in.ensures ∙ c.if-is_in.true)
+    (c.requires.1, sym c.is_in.ensures ∙ c.if-not-is_in.false)
 
-pub returns-in-End : goal.returns-in-End
-returns-in-End c =
-    let seen = rw c.in-End.is at c.look.ensures in
-    no_second seen c.args.a
+pub returns-in_err-b : goal.returns-in_err-b
+returns-in_err-b c = rw c.from_residual.ensures (no_second c.in_err-b.ensures c.args.a)
 
-pub returns-then-is_in : goal.returns-then-is_in
-returns-then-is_in c =
-    let seen = rw c.in-Octet.is at c.look.ensures in
-    second seen c.args.a (sym c.is_in.ensures ∙ c.if-is_in.true)
+pub returns-then-not-is_in : goal.returns-then-not-is_in
+returns-then-not-is_in c =
+    other_second c.in_ok-b.ensures c.args.a (sym c.is_in.ensures ∙ c.if-not-is_in.true)
+
+pub returns : goal.returns
+returns c =
+    second c.in_ok-b.ensures c.args.a (sym c.is_in.ensures ∙ c.if-not-is_in.false)
     c.tripled_octet.ensures
-
-pub returns-else-is_in : goal.returns-else-is_in
-returns-else-is_in c =
-    let seen = rw c.in-Octet.is at c.look.ensures in
-    other_second seen c.args.a (sym c.is_in.ensures ∙ c.if-is_in.false)

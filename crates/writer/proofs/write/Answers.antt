@@ -1,16 +1,15 @@
 -- A refused table is refused, and a usable one is written.
+use Rattle.std.proofs.lemmas.Result.{err_from_is_err_and}
 use Rattle.table_check.proofs.EntryOutcomes.{state_refused, state_usable, in_older}
-use borrow.Author.Rules.{rules}
 use Rattle.writer.proofs.write.Goals as goal
 
+pub returns-in_err-state_of : goal.returns-in_err-state_of
+returns-in_err-state_of c =
+    let p = err_from_is_err_and c.from_residual.result c.from_residual.ensures.1 in
+    rw (p.1, p.2) (state_refused c.in_err-state_of.ensures)
+
 pub write_table-requires : goal.write_table-requires
-write_table-requires c = (in_older (rw c.in-Usable.is at c.state_of-state.ensures), search rules)
+write_table-requires c = in_older c.in_ok-state_of.ensures
 
-pub returns-in-Refused : goal.returns-in-Refused
-returns-in-Refused c = state_refused (rw c.in-Refused.is at c.state_of-state.ensures)
-
-pub returns-in-Usable : goal.returns-in-Usable
-returns-in-Usable c =
-    let told = c.in-Usable.is in
-    let usable = rw told at c.state_of-state.ensures in
-    state_usable usable c.write_table.ensures
+pub returns : goal.returns
+returns c = state_usable c.in_ok-state_of.ensures c.write_table.ensures

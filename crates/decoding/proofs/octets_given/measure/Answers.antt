@@ -1,8 +1,6 @@
 -- What is counted and what is still given tell the same at each turn.
-use Prim.Native.Nat.{◌-◌}
 use native.Mathlib.Omega.{arith}
 use mathlib.Core.Path.{refl, sym, ap, ◌∙◌}
-use Rattle.extended.specs.Decoded.{given}
 use Rattle.units.proofs.Giving.{attribute_here}
 use Rattle.decoding.specs.Measured.{measured}
 use Rattle.decoding.proofs.Measuring.{count_on, given_none}
@@ -25,7 +23,7 @@ loop-k-preserved-then-is_attribute c =
     let loop' = c.loop-k in
     let attribute = sym c.is_attribute.ensures ∙ c.if-is_attribute.true in
     let given =
-    attribute_here c.args.escapes c.args.s.now c.loop-k-test.true c.requires.0 attribute
+    attribute_here c.args.how c.args.s.now c.loop-k-test.true c.requires attribute
     c.next-k.ensures
     in
     (omega (arith, given.onward, loop'.invariant.0), rw c.behind-awaited.ensures (count_on given loop'.n loop'.awaited ∙ loop'.invariant.1))
@@ -62,5 +60,5 @@ pub returns : goal.returns
 returns c =
     let loop' = c.loop-k in
     let nothing' = c.nothing-awaited in
-    let none = given_none c.args.escapes c.args.s.now c.loop-k-test.false in
+    let none = given_none c.args.how c.args.s.now c.loop-k-test.false in
     c.finished-2.ensures ∙ sym (ap (measured loop'.n loop'.awaited) none) ∙ rw nothing'.ensures at loop'.invariant.1

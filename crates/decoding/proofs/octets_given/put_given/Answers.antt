@@ -1,9 +1,7 @@
 -- What is put already and what is still given make the whole at each turn.
-use Prim.Native.Nat.{◌-◌}
 use native.Mathlib.Omega.{arith}
 use mathlib.Core.Path.{refl, sym, ap, ◌∙◌}
 use Rattle.kinds.proofs.Putting.{begin, onto, finish, octet, octet_room}
-use Rattle.extended.specs.Decoded.{given}
 use Rattle.extended.proofs.Given.{none_some}
 use Rattle.units.proofs.Giving.{attribute_here}
 use Rattle.decoding.specs.Measured.{octets_given}
@@ -18,7 +16,7 @@ pub bounds-out-i : goal.bounds-out-i
 bounds-out-i c =
     let loop' = c.loop-k in
     let given =
-    attribute_here c.args.escapes c.args.s.now c.loop-k-test.true c.requires.0
+    attribute_here c.args.how c.args.s.now c.loop-k-test.true c.requires.0
     (sym c.is_attribute.ensures ∙ c.if-is_attribute.true) refl
     in
     octet_room (onto (octet_first given loop'.invariant.0) loop'.invariant.1)
@@ -27,7 +25,7 @@ pub next-to-requires : goal.next-to-requires
 next-to-requires c =
     let loop' = c.loop-k in
     let given =
-    attribute_here c.args.escapes c.args.s.now c.loop-k-test.true c.requires.0
+    attribute_here c.args.how c.args.s.now c.loop-k-test.true c.requires.0
     (sym c.is_attribute.ensures ∙ c.if-is_attribute.true) refl
     in
     omega (
@@ -47,7 +45,7 @@ pub loop-k-preserved-then-is_attribute : goal.loop-k-preserved-then-is_attribute
 loop-k-preserved-then-is_attribute c =
     let loop' = c.loop-k in
     let given =
-    attribute_here c.args.escapes c.args.s.now c.loop-k-test.true c.requires.0
+    attribute_here c.args.how c.args.s.now c.loop-k-test.true c.requires.0
     (sym c.is_attribute.ensures ∙ c.if-is_attribute.true) refl
     in
     rw (c.next-k.ensures, c.next-to.ensures)
@@ -90,5 +88,5 @@ loop-k-preserved c =
 
 pub returns : goal.returns
 returns c =
-    let none = given_none c.args.escapes c.args.s.now c.loop-k-test.false in
+    let none = given_none c.args.how c.args.s.now c.loop-k-test.false in
     finish (onto (ap octets_given none) c.loop-k.invariant.1)

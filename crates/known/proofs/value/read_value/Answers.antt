@@ -9,7 +9,7 @@ past_octet-start-requires c = (c.sees.ensures.yes c.if-sees.true).inside
 
 pub inside_end-q-requires : goal.inside_end-q-requires
 inside_end-q-requires c =
-    known_quoted c.requires.0 (c.sees.ensures.yes c.if-sees.true)
+    known_quoted c.requires (c.sees.ensures.yes c.if-sees.true)
     c.past_octet-start.ensures
 
 pub past_octet-requires : goal.past_octet-requires
@@ -22,12 +22,12 @@ returns-then-sees c =
     c.past_octet.ensures
 
 pub past_token-k-requires : goal.past_token-k-requires
-past_token-k-requires c = (c.requires.0.clear.inside, search rules)
+past_token-k-requires c = (c.requires.clear.inside)
 
 pub past_further-e-requires : goal.past_further-e-requires
-past_further-e-requires c = (record { inside = c.past_token-k.ensures.inside; stops = c.past_token-k.ensures.stops }, search rules)
+past_further-e-requires c = (record { inside = c.past_token-k.ensures.inside; stops = c.past_token-k.ensures.stops })
 
 pub returns : goal.returns
 returns c =
-    bare_value c.requires.0 c.sees.ensures c.if-sees.false c.past_token-k.ensures
+    bare_value c.requires c.sees.ensures c.if-sees.false c.past_token-k.ensures
     c.past_further-e.ensures c.span_to-2.ensures c.bare_form.ensures

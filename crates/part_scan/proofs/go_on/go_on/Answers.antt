@@ -6,7 +6,7 @@ use borrow.Author.Rules.{rules}
 use Rattle.part_scan.proofs.go_on.go_on.Goals as goal
 
 pub outside-requires : goal.outside-requires
-outside-requires c = (c.requires.0, sym c.is_open.ensures ∙ c.if-is_open.false, search rules)
+outside-requires c = (c.requires.0, sym c.is_open.ensures ∙ c.if-is_open.false)
 
 pub overflow_add-base : goal.overflow_add-base
 overflow_add-base c =

@@ -6,7 +6,7 @@ use Rattle.part_scan.proofs.go_on.on_in_target.Goals as goal
 
 pub judged_to-requires : goal.judged_to-requires
 judged_to-requires c = let y = target_run c.past_blocks.ensures c.past_target-d.ensures in
-    (y.forward, y.inside, search rules)
+    (y.forward, y.inside)
 
 pub returns : goal.returns
 returns c =

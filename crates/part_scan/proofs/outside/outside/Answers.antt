@@ -9,7 +9,7 @@ pub loop-last-init : goal.loop-last-init
 loop-last-init c = none_out _ _ _ _ c.requires.0 c.requires.1
 
 pub pass-requires : goal.pass-requires
-pass-requires c = (c.loop-last.invariant.inside, c.loop-last.invariant.closed, search rules)
+pass-requires c = (c.loop-last.invariant.inside, c.loop-last.invariant.closed)
 
 pub returns-in-End : goal.returns-in-End
 returns-in-End c = so_ends c.loop-last.invariant c.pass.ensures c.in-End.is

@@ -7,7 +7,7 @@ use borrow.Author.Rules.{rules}
 use Rattle.part_scan.proofs.outside.pass.Goals as goal
 
 pub beyond-requires-in-10 : goal.beyond-requires-in-10
-beyond-requires-in-10 c = ((c.past_quoted.ensures (further c.args.edition) 0).inside, c.requires.1, search rules)
+beyond-requires-in-10 c = ((c.past_quoted.ensures (further c.args.edition) 0).inside, c.requires.1)
 
 pub returns-in-0 : goal.returns-in-0
 returns-in-0 c = out_run c.in-0.is blank_gap c.past_blanks.ensures c.beyond.ensures

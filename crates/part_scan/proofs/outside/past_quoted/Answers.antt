@@ -21,7 +21,7 @@ pair_on {s = s} {a = a} {d} {f} {e} b p x q r =
     pair_stays b (subst (In s is_escapable) u x) (subst (λ (k : ℕ). Passed is_plain s k e) v r)
 
 pub past_plain-c-requires : goal.past_plain-c-requires
-past_plain-c-requires c = (c.requires.0, search rules)
+past_plain-c-requires c = (c.requires)
 
 pub loop-d-init : goal.loop-d-init
 loop-d-init c = λ extra base. stays_here c.past_plain-c.ensures.inside
@@ -39,13 +39,11 @@ past_octet-requires c =
 
 pub past_plain-c-requires-in-loop-d : goal.past_plain-c-requires-in-loop-d
 past_plain-c-requires-in-loop-d c = (
-  omega (
-    arith,
-    c.past_octet.ensures,
-    (c.sees_in.ensures.yes (not-false c.sees_in.result c.if-not-sees_in.false-raw)).inside,
-  ),
-  search rules,
-)
+    omega (
+      arith,
+      c.past_octet.ensures,
+      (c.sees_in.ensures.yes (not-false c.sees_in.result c.if-not-sees_in.false-raw)).inside,
+    ))
 
 pub loop-d-smaller : goal.loop-d-smaller
 loop-d-smaller c =

@@ -1,8 +1,7 @@
 -- What is left of the meaning is put octet by octet.
 -- where the branch's ways meet, the octet meant stands at p
-use Prim.Native.Nat.{◌-◌, ◌<◌}
+use Prim.Native.Nat.{◌<◌}
 use native.Mathlib.Omega.{arith}
-use mathlib.Core.Logic.{⊎_elim}
 use mathlib.Core.List.{[]}
 use lib.ListN.{get_or}
 use Rattle.tables.specs.Written.{escape_octet}

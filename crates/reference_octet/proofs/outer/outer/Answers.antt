@@ -15,4 +15,4 @@ returns-then-q-eq15 c = rw c.if-q-eq15.true c.in_fragment.ensures
 pub returns : goal.returns
 unfolding step
 returns c =
-    let last : c.args.q ≡ 14 = omega (arith, c.requires.0) in rw last
+    let last : c.args.q ≡ 14 = omega (arith, c.requires) in rw last

@@ -12,5 +12,5 @@ returns-then-s-i-lt2 c = λ e. absurd (false≢true e)
 pub returns : goal.returns
 returns c =
     let a = c.before.before in
-    let h : a.args.i + 2 ≤ length a.args.s.now = omega (arith, c.if-s-i-lt2.false, a.requires.0) in
+    let h : a.args.i + 2 ≤ length a.args.s.now = omega (arith, c.if-s-i-lt2.false, a.requires) in
     λ e. root a.args.s.now a.args.i h (rw c.is_path.ensures at e)

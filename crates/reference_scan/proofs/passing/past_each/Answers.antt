@@ -5,7 +5,7 @@ use Rattle.reference_scan.proofs.Runs.{passed_none, passed_more}
 use Rattle.reference_scan.proofs.passing.past_each.Goals as goal
 
 pub loop-i-init : goal.loop-i-init
-loop-i-init c = passed_none c.requires.0
+loop-i-init c = passed_none c.requires
 
 pub loop-i-preserved : goal.loop-i-preserved
 loop-i-preserved c =

@@ -6,7 +6,7 @@ use Rattle.reference_scan.proofs.Commons.{either_keeps, authority_keeps, host_ke
 use Rattle.reference_scan.proofs.passing.past_run.Goals as goal
 
 pub past_units-requires : goal.past_units-requires
-past_units-requires c = (c.requires.0, c.if-q.true, search rules)
+past_units-requires c = (c.requires, c.if-q.true)
 
 pub returns-then-q : goal.returns-then-q
 returns-then-q c = c.past_units.ensures
@@ -30,4 +30,4 @@ pub returns-then-q-eq2 : goal.returns-then-q-eq2
 returns-then-q-eq2 c = rw c.if-q-eq2.true (comes_kept (passed_within segment_keeps c.past_each-then-q-eq2.ensures))
 
 pub returns : goal.returns
-returns c = comes_none _ c.requires.0
+returns c = comes_none _ c.requires

@@ -8,19 +8,19 @@ use Rattle.reference_scan.proofs.Commons.{both_keep}
 use Rattle.reference_scan.proofs.passing.past_units.Goals as goal
 
 pub past_path-i-requires : goal.past_path-i-requires
-past_path-i-requires c = (c.requires.0, search rules)
+past_path-i-requires c = (c.requires.0)
 
 pub loop-i-init : goal.loop-i-init
 loop-i-init c = comes_kept (passed_within (both_keep _ c.requires.1) c.past_path-i.ensures)
 
 pub sees_triple-requires : goal.sees_triple-requires
-sees_triple-requires c = (c.loop-i.invariant.inside, c.requires.1, search rules)
+sees_triple-requires c = (c.loop-i.invariant.inside, c.requires.1)
 
 pub overflow_add-i : goal.overflow_add-i
 overflow_add-i c = omega (arith, (c.sees_triple.ensures c.loop-i-test.true).0)
 
 pub past_path-i-requires-in-loop-i : goal.past_path-i-requires-in-loop-i
-past_path-i-requires-in-loop-i c = ((c.sees_triple.ensures c.loop-i-test.true).0, search rules)
+past_path-i-requires-in-loop-i c = ((c.sees_triple.ensures c.loop-i-test.true).0)
 
 pub loop-i-smaller : goal.loop-i-smaller
 loop-i-smaller c =

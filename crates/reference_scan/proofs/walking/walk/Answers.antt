@@ -8,10 +8,10 @@ use Rattle.reference_scan.proofs.Closes.{closes}
 use Rattle.reference_scan.proofs.walking.walk.Goals as goal
 
 pub loop-i-init : goal.loop-i-init
-loop-i-init c = comes_none c.args.state c.requires.0
+loop-i-init c = comes_none c.args.state c.requires
 
 pub past_run-i-requires : goal.past_run-i-requires
-past_run-i-requires c = (c.loop-i.invariant.inside, search rules)
+past_run-i-requires c = (c.loop-i.invariant.inside)
 
 pub returns-then-i-s : goal.returns-then-i-s
 returns-then-i-s c =

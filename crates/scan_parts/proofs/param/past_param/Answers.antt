@@ -1,22 +1,14 @@
 -- A name, and behind it a value or none.
-use native.Mathlib.Omega.{arith}
 use mathlib.Core.Path.{refl}
 use Rattle.scan_parts.specs.Scanned.{no_param, a_param}
 use Rattle.scan_parts.proofs.ReadyBehindParam.{no_param_here}
 use Rattle.scan_parts.proofs.PassedIsParsed.{flag_parsed}
 use Rattle.scan_parts.proofs.PartsScanned.{value_scanned}
-use borrow.Author.Rules.{rules}
 use Rattle.scan_parts.proofs.param.past_param.Goals as goal
 
 pub returns-then-e-from : goal.returns-then-e-from
 returns-then-e-from c =
-    no_param (no_param_here c.requires.0 c.past_token-e.ensures c.if-e-from.true)
-
-pub past_octet-requires : goal.past_octet-requires
-past_octet-requires c = (c.sees.ensures.yes c.if-sees.true).inside
-
-pub past_blanks-requires : goal.past_blanks-requires
-past_blanks-requires c = (omega (arith, c.past_octet.ensures, (c.sees.ensures.yes c.if-sees.true).inside), search rules)
+    no_param (no_param_here c.requires c.past_token-e.ensures c.if-e-from.true)
 
 pub returns-then-sees : goal.returns-then-sees
 returns-then-sees c =

@@ -1,6 +1,6 @@
 -- What the judging took is a reference; else the octets and triples tell where the target ends.
+use borrow.Author.Rules.{rules}
 use mathlib.Core.Path.{refl, sym, ◌∙◌}
-use mathlib.Core.Logic.{⊎_elim}
 use mathlib.Core.Bool.{true≢false}
 use borrow.Author.Tests.{eq-eqb}
 use Rattle.scan_parts.proofs.ReferenceOrNot.{is_reference_lem, stuck_all_the_same, closed_all_the_same}
@@ -12,12 +12,12 @@ returns-then-sees c =
     is_reference_lem c.judge-judged.ensures refl (sym c.accepts.ensures ∙ c.if-accepts.true)
     (c.sees.ensures.yes c.if-sees.true)
 
-pub returns-in-Stuck : goal.returns-in-Stuck
-returns-in-Stuck c = stuck_all_the_same c.past_units.ensures c.in-Stuck.is
+pub returns-in_err-past_units : goal.returns-in_err-past_units
+returns-in_err-past_units c = search (rules, stuck_all_the_same)
 
-pub returns-in-Past : goal.returns-in-Past
-returns-in-Past c =
-    closed_all_the_same c.judge-judged.ensures c.past_units.ensures c.in-Past.is
+pub returns : goal.returns
+returns c =
+    closed_all_the_same c.judge-judged.ensures c.in_ok-past_units.ensures
     (λ q y.
     elim c.else-accepts.branch [
       | else-accepts-via-then-accepts+else-sees w ↦

@@ -1,34 +1,25 @@
 -- The loop passes the links: the parameters of those below number i are good.
-use Prim.Native.Nat.{◌-◌}
 use native.Mathlib.Omega.{arith}
-use borrow.Author.Rules.{rules}
 use borrow.Author.Tests.{not-true, not-false}
 use Rattle.part_check.proofs.Deciding.{is_so, not_so}
 use Rattle.table_check.proofs.GoodParts.{in_room, one_more, here}
 use Rattle.table_check.proofs.links.are_all_good.Goals as goal
 
 pub loop-i-init : goal.loop-i-init
-loop-i-init c = λ j l. absurd (omega (arith, c.first-i.ensures))
+loop-i-init c = λ j l. absurd (omega arith)
 
 pub link_at-l-requires : goal.link_at-l-requires
-link_at-l-requires c = omega (arith, c.loop-i-test.true, c.requires.0.link_room)
+link_at-l-requires c = omega (arith, c.loop-i-test.true, c.requires.link_room)
 
 pub are_good_params-requires : goal.are_good_params-requires
-are_good_params-requires c = (in_room c.requires.0 c.loop-i-test.true c.link_at-l.ensures, search rules)
+are_good_params-requires c = (in_room c.requires c.loop-i-test.true c.link_at-l.ensures)
 
 pub returns-then-not-are_good_params : goal.returns-then-not-are_good_params
 returns-then-not-are_good_params c =
     not_so (λ g. c.are_good_params.ensures.fails (not-true _ c.if-not-are_good_params.true-raw) (here c.link_at-l.ensures (g _ c.loop-i-test.true)))
 
-pub next-i-requires : goal.next-i-requires
-next-i-requires c = omega (arith, c.loop-i-test.true, c.requires.0.link_room)
-
-pub loop-i-smaller : goal.loop-i-smaller
-loop-i-smaller c = omega (arith, c.next-i.ensures, c.loop-i-test.true)
-
 pub loop-i-preserved : goal.loop-i-preserved
 loop-i-preserved c =
-    rw c.next-i.ensures
     (one_more c.link_at-l.ensures c.loop-i.invariant
     (c.are_good_params.ensures.holds (not-false _ c.if-not-are_good_params.false-raw)))
 

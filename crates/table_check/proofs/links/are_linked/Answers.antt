@@ -1,17 +1,15 @@
 -- The loop passes the links: those that are left, with what their parameters begin at, tell whether all follow with good targets.
-use Prim.Native.Nat.{◌-◌}
 use native.Mathlib.Omega.{arith}
-use mathlib.Core.Logic.{⊎_elim}
-use borrow.Author.Tests.{ltb-true, ltb-false, not-true, not-false}
+use borrow.Author.Tests.{ltb-false, not-true, not-false}
 use Rattle.table_check.proofs.OfLinks.{begin, elsewhere, too_many, bad_target, passed, through}
 use Rattle.table_check.proofs.links.are_linked.Goals as goal
 use Rattle.table_check.proofs.links.are_linked.Goals.{then-l-next-via-then-l-next, then-l-next-via-else-l-next+then-l-left, then-l-next-via-else-l-next+else-l-left+then-not-is_good_target}
 
 pub loop-i-init : goal.loop-i-init
-loop-i-init c = rw (c.first-i.ensures, c.first-next.ensures) (begin _ _ _ _)
+loop-i-init c = rw c.first-next.ensures (begin _ _ _ _)
 
 pub link_at-l-requires : goal.link_at-l-requires
-link_at-l-requires c = omega (arith, c.loop-i-test.true, c.requires.0)
+link_at-l-requires c = omega (arith, c.loop-i-test.true, c.requires)
 
 pub overflow_sub-left : goal.overflow_sub-left
 overflow_sub-left c = c.loop-i.invariant.below
@@ -32,18 +30,11 @@ pub plus-next-requires : goal.plus-next-requires
 plus-next-requires c =
     omega (arith, ltb-false, c.if-l-left.false-raw, c.loop-i.invariant.below, c.well_formed.1.1.0.1)
 
-pub next-i-requires : goal.next-i-requires
-next-i-requires c =
-    omega (arith, c.loop-i-test.true, c.requires.0)
-
-pub loop-i-smaller : goal.loop-i-smaller
-loop-i-smaller c = omega (arith, c.next-i.ensures, c.loop-i-test.true)
-
 pub loop-i-preserved : goal.loop-i-preserved
 loop-i-preserved c =
     let loop' = c.loop-i in
     let is-good-target' = c.is_good_target in
-    rw (c.next-i.ensures, c.plus-next.ensures)
+    rw c.plus-next.ensures
     (passed loop'.invariant c.loop-i-test.true c.link_at-l.ensures c.if-l-next.false (ltb-false _ _ c.if-l-left.false-raw)
     (is-good-target'.ensures.holds (not-false _ c.if-not-is_good_target.false-raw)))
 

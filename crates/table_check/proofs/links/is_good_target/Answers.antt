@@ -1,11 +1,10 @@
 -- The span is asked first, and then whether it is a reference.
-use borrow.Author.Rules.{rules}
 use Rattle.part_check.proofs.Deciding.{not_so}
 use Rattle.table_check.proofs.Judged.{judged}
 use Rattle.table_check.proofs.links.is_good_target.Goals as goal
 
 pub is_reference-requires : goal.is_reference-requires
-is_reference-requires c = let h = c.is_span.ensures.holds c.if-is_span.true in (h.ordered, h.inside, search rules)
+is_reference-requires c = let h = c.is_span.ensures.holds c.if-is_span.true in (h.ordered, h.inside)
 
 pub returns-then-is_span : goal.returns-then-is_span
 returns-then-is_span c = judged _ (c.is_span.ensures.holds c.if-is_span.true) c.is_reference.ensures

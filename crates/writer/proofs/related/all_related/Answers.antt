@@ -8,7 +8,7 @@ use Rattle.writer.proofs.Relations.{one_more, one_unrelated, every_related}
 use Rattle.writer.proofs.related.all_related.Goals as goal
 
 pub loop-i-init : goal.loop-i-init
-loop-i-init c = λ j h. absurd (omega (arith, c.first-i.ensures))
+loop-i-init c = λ j h. absurd (omega arith)
 
 pub link_at-l-requires : goal.link_at-l-requires
 link_at-l-requires c =
@@ -21,24 +21,17 @@ is_related-requires c =
 pub returns-then-not-is_related : goal.returns-then-not-is_related
 returns-then-not-is_related c =
     let if1' = c.loop-i-test in
-    let n = c.args.counts in
-    let t = table_of c.args.text.now c.args.links.now c.args.params.now n.links n.params in
+    let n = c.args.t.now.counts in
+    let t = table_of c.args.t.now.text.now c.args.t.now.links.now c.args.t.now.params.now n.links n.params in
     one_unrelated t c.link_at-l.ensures c.is_related.ensures if1'.true c.if-not-is_related.true-raw
-
-pub next-i-requires : goal.next-i-requires
-next-i-requires c =
-    omega (arith, link_slots c.requires.good c.loop-i-test.true, c.well_formed.1.0.0)
-
-pub loop-i-smaller : goal.loop-i-smaller
-loop-i-smaller c = omega (arith, c.next-i.ensures, c.loop-i-test.true)
 
 pub loop-i-preserved : goal.loop-i-preserved
 loop-i-preserved c =
     let link-at' = c.link_at-l in
     let loop' = c.loop-i in
-    let n = c.args.counts in
-    let t = table_of c.args.text.now c.args.links.now c.args.params.now n.links n.params in
-    rw c.next-i.ensures (one_more t link-at'.ensures c.is_related.ensures loop'.invariant c.if-not-is_related.false-raw)
+    let n = c.args.t.now.counts in
+    let t = table_of c.args.t.now.text.now c.args.t.now.links.now c.args.t.now.params.now n.links n.params in
+    one_more t link-at'.ensures c.is_related.ensures loop'.invariant c.if-not-is_related.false-raw
 
 pub returns : goal.returns
 returns c = every_related (λ j h. c.loop-i.invariant j (omega (arith, c.loop-i-test.false)))

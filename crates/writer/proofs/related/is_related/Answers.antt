@@ -8,14 +8,14 @@ first_of-rel-requires c = c.requires.room
 pub has_runs-requires : goal.has_runs-requires
 has_runs-requires c =
     rel_span c.args.text.now c.args.params.now c.args.l c.requires
-    (rw c.in-Found.is at c.first_of-rel.ensures)
+    (rw c.in-Some.is at c.first_of-rel.ensures)
 
-pub returns-in-Found : goal.returns-in-Found
-returns-in-Found c =
+pub returns-in-Some : goal.returns-in-Some
+returns-in-Some c =
     at_rel c.args.text.now c.args.params.now c.args.l c.requires
-    (rw c.in-Found.is at c.first_of-rel.ensures) c.has_runs.ensures
+    (rw c.in-Some.is at c.first_of-rel.ensures) c.has_runs.ensures
 
-pub returns-in-Absent : goal.returns-in-Absent
-returns-in-Absent c =
+pub returns-in-None : goal.returns-in-None
+returns-in-None c =
     no_rel c.args.text.now c.args.params.now c.args.l c.requires
-    (rw c.in-Absent.is at c.first_of-rel.ensures)
+    (rw c.in-None.is at c.first_of-rel.ensures)

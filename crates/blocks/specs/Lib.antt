@@ -1,0 +1,2 @@
+-- What the crate `blocks` means by its words.
+pub mod Others

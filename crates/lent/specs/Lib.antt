@@ -1,0 +1,2 @@
+-- What the crate `lent` means by its words.
+pub mod Lent

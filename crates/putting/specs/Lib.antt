@@ -1,2 +1,0 @@
--- What the crate `putting` means by its words.
-pub mod Spelt
