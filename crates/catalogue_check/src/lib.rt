@@ -8,7 +8,7 @@ ghost use Rattle.catalogue_check.specs.Checked.{Begun, AddedTo, IsChecked};
 
 use accepting::is_accepted;
 use kinds::{PackNumber, Place};
-use pack_index::{find, put_places};
+use pack_index::{Packs, put_places};
 use pack_lines::line_at;
 
 // The most octets of a catalogue, and the most packs in one.
@@ -39,7 +39,12 @@ fn add_pack(
     if !is_accepted(&s[v..e], links, params) {
         return None;
     }
-    match find(s, index, count, &s[f..t]) {
+    let before = Packs {
+        text: s,
+        index,
+        count,
+    };
+    match before.find(&s[f..t]) {
         Some(_) => None,
         None => {
             put_places(index, PackNumber(count), p);
@@ -65,6 +70,7 @@ pub fn check(
     }
     let mut count = 0;
     let mut at = 0;
+    // Each turn passes a line of any length, so a for loop doesn't fit.
     while at < n {
         if count >= PACKS {
             return None;

@@ -23,6 +23,7 @@ fn has_run(text: &[u8], part: Span, relation: &[u8]) -> bool
 {
     let e = part.to;
     let mut k = next_run(text, part.from, e);
+    // Each turn passes a run of any length, so a for loop doesn't fit.
     while k.0 < e.0 {
         let m = match_run(text, k, e, relation);
         if m.same {

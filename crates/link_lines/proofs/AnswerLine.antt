@@ -1,20 +1,16 @@
 -- The line of a link's answer. Assumes nothing.
 use Prim.Native.Nat.{ℕ, ◌+◌, ◌≤◌}
 use native.Mathlib.Omega.{arith}
-use mathlib.Core.Path.{◌≡◌, ap, subst, ◌∙◌}
+use mathlib.Core.Path.{◌≡◌, ap, subst}
 use mathlib.Core.List.{List}
 use lib.ListN.{length, take, drop, length-append}
-use lib.Seq.{slice, take-length, length-take-le, length-sets}
+use lib.Seq.{length-take-le, length-sets}
 use Rattle.std.specs.Prelude.{Result, Ok}
 use Rattle.kinds.specs.Put.{Put}
 use Rattle.tables.specs.Table.{Table}
 use Rattle.answers.specs.declared.Refusal.{Refusal}
 use Rattle.link_lines.specs.Link.{LinkOn, target_refused, context_refused, both}
 use Rattle.link_lines.specs.Line.{Holds}
-
--- the part of a text that is all of it
-pub whole_part : (s : List ℕ) {n : ℕ} → n ≡ length s → slice 0 n s ≡ s
-whole_part s h = ap (λ (k : ℕ). take k s) h ∙ take-length s
 
 -- the answer tells how many octets both buffers hold
 module _ (T C : List ℕ) {a : Result (ℕ × ℕ) Refusal} {n m : ℕ} (h : Holds a T C) (e : a ≡ Ok (n, m)) where

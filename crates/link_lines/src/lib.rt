@@ -16,7 +16,7 @@ ghost use Rattle.lent.specs.Lent.{lent};
 use answers::Refusal;
 use answers::read_answer::ReadError;
 use columns::Line;
-use kinds::{Counts, LinkNumber, OutPlace, Place, Span};
+use kinds::{Counts, LinkNumber, OutPlace, Span};
 use lent::Table;
 use putting::part::put_part;
 use resolved::resolved_context;
@@ -63,11 +63,7 @@ fn copy_line(from: Line, line: &mut [u8]) -> usize
 {
     let octets = from.octets;
     let n = from.len;
-    let whole = Span {
-        from: Place(0),
-        to: Place(n),
-    };
-    put_part(&octets[..n], whole, line, OutPlace::start()).0
+    put_part(&octets[..n], Span::up_to(n), line, OutPlace::start()).0
 }
 
 // Puts the line of a link's answer at a buffer's start, and answers its length.

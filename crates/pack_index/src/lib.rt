@@ -76,19 +76,29 @@ fn are_same(u: &[u8], v: &[u8]) -> bool
     true
 }
 
-// The first of so many packs whose URI is these octets, or none.
-pub fn find(text: &[u8], index: &[usize], count: usize, uri: &[u8]) -> Option<PackNumber>
-    requires { Held text.now index.now count }
-    ensures { FoundBy text.now index.now count uri.now result }
-{
-    for i in 0..count {
-        let number = PackNumber(i);
-        let places = places_at(index, number);
-        let from = places.from.0;
-        let tab = places.tab.0;
-        if are_same(&text[from..tab], uri) {
-            return Some(number);
+// The packs of a catalogue: its text, the index of their places, and how many they are. What goes over them takes them whole.
+#[derive(Clone, Copy)]
+pub struct Packs<'a> {
+    pub text: &'a [u8],
+    pub index: &'a [usize],
+    pub count: usize,
+}
+
+impl Packs<'_> {
+    // The first pack whose URI is these octets, or none.
+    pub fn find(&self, uri: &[u8]) -> Option<PackNumber>
+        requires { Held self.now.text.now self.now.index.now self.now.count }
+        ensures { FoundBy self.now.text.now self.now.index.now self.now.count uri.now result }
+    {
+        for i in 0..self.count {
+            let number = PackNumber(i);
+            let places = places_at(self.index, number);
+            let from = places.from.0;
+            let tab = places.tab.0;
+            if are_same(&self.text[from..tab], uri) {
+                return Some(number);
+            }
         }
+        None
     }
-    None
 }

@@ -22,11 +22,12 @@ fn past_uri(s: &[u8], from: Place) -> Place
     requires { from.0 ≤ length s.now }
     ensures { Passed in_uri s.now from.0 result.0 }
 {
-    let mut i = from.0;
-    while i < s.len() && is_in_uri(s[i]) {
-        i += 1;
+    for i in from.0..s.len() {
+        if !is_in_uri(s[i]) {
+            return Place(i);
+        }
     }
-    Place(i)
+    Place(s.len())
 }
 
 // Past all octets of a Link value, up to the LF that ends its line.
@@ -34,11 +35,13 @@ fn past_value(s: &[u8], from: Place) -> Place
     requires { from.0 ≤ length s.now }
     ensures { Passed in_value s.now from.0 result.0 }
 {
-    let mut i = past_blocks_without::<b'\n'>(s, from).0;
-    while i < s.len() && s[i] != b'\n' {
-        i += 1;
+    let passed = past_blocks_without::<b'\n'>(s, from);
+    for i in passed.0..s.len() {
+        if s[i] == b'\n' {
+            return Place(i);
+        }
     }
-    Place(i)
+    Place(s.len())
 }
 
 // The places of the pack whose line begins here, or none if no line does.

@@ -10,12 +10,10 @@ use pack_lines::line_at;
 pub fn uri_of(s: &[u8], number: PackNumber) -> Span
     ensures { UriPart s.now number.0 result.from.0 result.to.0 }
 {
-    let nothing = Span {
-        from: Place(0),
-        to: Place(0),
-    };
+    let nothing = Span::up_to(0);
     let mut left = number.0;
     let mut at = 0;
+    // Each turn passes a line of any length, so a for loop doesn't fit.
     while at < s.len() {
         let Some(p) = line_at(s, Place(at)) else {
             return nothing;

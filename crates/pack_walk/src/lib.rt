@@ -12,13 +12,12 @@ use answers::walk_answer::{End, Ended, WalkAnswer};
 use answers::{LIMIT, Refusal};
 use kinds::PackNumber;
 use paces::Way;
+use pack_index::Packs;
 use stepping::step;
 
 // Walks on from a pack, behind so many steps taken, with so many left to take. Each step taken leaves one step fewer.
 fn walk_on(
-    s: &[u8],
-    index: &[usize],
-    count: usize,
+    p: &Packs,
     pack: PackNumber,
     way: Way,
     left: usize,
@@ -27,38 +26,25 @@ fn walk_on(
     params: &mut [usize],
     work: &mut [u8],
 ) -> WalkAnswer
-    requires { KnownPacks s.now index.now count (length links.old) (length params.old) × (pack.0 < count)
+    requires { KnownPacks p.now.text.now p.now.index.now p.now.count (length links.old) (length params.old) × (pack.0 < p.now.count)
         × (limit ≤ length work.old) × (steps + left ≤ step_limit) }
-    ensures { WalksOn s.now index.now count (length links.old) (length params.old) (relation_on way)
+    ensures { WalksOn p.now.text.now p.now.index.now p.now.count (length links.old) (length params.old) (relation_on way)
         left pack.0 steps result }
 {
     if left == 0 {
         let end = End::Arrived;
         return Ok(Ended { end, pack, steps });
     }
-    let stepped = step(s, index, count, pack, way, links, params, work);
+    let stepped = step(p, pack, way, links, params, work);
     match stepped {
         Err(end) => Ok(Ended { end, pack, steps }),
-        Ok(next) => walk_on(
-            s,
-            index,
-            count,
-            next,
-            way,
-            left - 1,
-            steps + 1,
-            links,
-            params,
-            work,
-        ),
+        Ok(next) => walk_on(p, next, way, left - 1, steps + 1, links, params, work),
     }
 }
 
 // Walks from a pack, if there is such a start, and octets enough for resolving.
 pub fn walk_from(
-    s: &[u8],
-    index: &[usize],
-    count: usize,
+    p: &Packs,
     start: PackNumber,
     way: Way,
     steps: usize,
@@ -66,15 +52,15 @@ pub fn walk_from(
     params: &mut [usize],
     work: &mut [u8],
 ) -> WalkAnswer
-    requires { KnownPacks s.now index.now count (length links.old) (length params.old) × (steps ≤ step_limit) }
-    ensures { WalksFrom s.now index.now count (length links.old) (length params.old)
+    requires { KnownPacks p.now.text.now p.now.index.now p.now.count (length links.old) (length params.old) × (steps ≤ step_limit) }
+    ensures { WalksFrom p.now.text.now p.now.index.now p.now.count (length links.old) (length params.old)
         (length work.old) (relation_on way) steps start.0 result }
 {
-    if start.0 >= count {
+    if start.0 >= p.count {
         return Err(Refusal::NoSuchLink);
     }
     if work.len() < LIMIT {
         return Err(Refusal::NoOutputRoom);
     }
-    walk_on(s, index, count, start, way, steps, 0, links, params, work)
+    walk_on(p, start, way, steps, 0, links, params, work)
 }

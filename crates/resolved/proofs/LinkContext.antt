@@ -4,6 +4,7 @@ use mathlib.Core.Path.{◌≡◌, sym, ap, subst, ◌∙◌}
 use mathlib.Core.List.{List}
 use lib.ListN.{length}
 use lib.Seq.{slice}
+use Rattle.kinds.specs.declared.Span.{Span}
 use Rattle.std.specs.Prelude.{Option, Some, None}
 use Rattle.octets.specs.Editions.{further}
 use Rattle.octets.specs.Text.{octets}
@@ -55,11 +56,11 @@ module _ {t : Table} {i : ℕ} (u : Usable Rfc5988 t) (l : i < t.link_count) {r 
         anchored l b is_kept (rw v w) (subst (λ (x : List ℕ). Fitted out (resolved base x) o) (sym v) f)
 
   -- it has none
-  pub untold : {base out : List ℕ} {o : CopyOut} → a ≡ None → IsURI base → Fitted out (resolved base (bare_of t.text 0 0)) o
-      → ContextOn t base i out o
-  untold {base} {out} {o} e b f =
-      let q : resolved base (bare_of t.text 0 0) ≡ unfragmented base =
-      ap (resolved base) (bare_of_empty t.text 0) ∙ itself_resolved.empty base in
+  pub untold : {base out : List ℕ} {o : CopyOut} {p : Span} → (p.from.0 ≡ 0) × (p.to.0 ≡ 0) → a ≡ None → IsURI base
+      → Fitted out (resolved base (bare_of t.text p.from.0 p.to.0)) o → ContextOn t base i out o
+  untold {base} {out} {o} {p} d e b f =
+      let q : resolved base (bare_of t.text p.from.0 p.to.0) ≡ unfragmented base =
+      rw (d.0, d.1) (ap (resolved base) (bare_of_empty t.text 0) ∙ itself_resolved.empty base) in
       unanchored l b (is_found u l is a first ∙ ap found e) (subst (λ (x : List ℕ). Fitted out x o) q f)
 
 -- ---- in an edition

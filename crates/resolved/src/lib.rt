@@ -16,7 +16,7 @@ ghost use Rattle.lent.specs.Lent.{lent};
 use answers::length_answer::LengthAnswer;
 use answers::{LIMIT, Refusal};
 use judging::{is_meant_reference, is_uri};
-use kinds::{LinkNumber, Place, Span};
+use kinds::{LinkNumber, Span};
 use lent::Table;
 use octets::editions::edition_of;
 use resolving::put_resolved;
@@ -51,13 +51,7 @@ fn context_at(t: &Table, base: &[u8], link: LinkNumber, out: &mut [u8]) -> Lengt
     let l = records::link_at(t.links, link);
     let anchor = named::first_of(t.params, l, names::ANCHOR);
     match anchor {
-        None => {
-            let nothing = Span {
-                from: Place(0),
-                to: Place(0),
-            };
-            put_resolved(base, t.text, nothing, out)
-        }
+        None => put_resolved(base, t.text, Span::up_to(0), out),
         Some(p) => anchored(t.text, base, p.value, out),
     }
 }

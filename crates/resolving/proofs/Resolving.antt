@@ -5,6 +5,8 @@ use mathlib.Core.Bool.{Bool, true, false}
 use mathlib.Core.List.{List, [], ◌∷◌}
 use lib.ListN.{length}
 use lib.Seq.{slice, take-length}
+use Rattle.kinds.specs.declared.Span.{Span}
+use Rattle.kinds.proofs.UpTo.{all_of}
 use Rattle.references.proofs.Clear.{Free}
 use Rattle.resolution.specs.Resolve.{resolved}
 use Rattle.reference_steps.specs.Machine.{run, accepts}
@@ -33,7 +35,8 @@ module _ (w base out : List ℕ) (h : length w ≤ limit) (k : length base ≤ l
   pub base_free : b ≡ true → Free (92 ∷ []) base
   base_free y = uri_free base (uri_told b e y)
 
-  pub both_right : {o : CopyOut} → b ≡ true → r ≡ true → Fitted out (resolved base (bare_of w 0 (length w))) o → Resolve w base out o
-  both_right {o} y z t =
-      let q : bare_of w 0 (length w) ≡ w = ap bare (whole w) ∙ reference_bare w (reference_told r judged z) in
+  pub both_right : {o : CopyOut} {p : Span} → (p.from.0 ≡ 0) × (p.to.0 ≡ length w) → b ≡ true → r ≡ true
+      → Fitted out (resolved base (bare_of w p.from.0 p.to.0)) o → Resolve w base out o
+  both_right {o} {p} d y z t =
+      let q : bare_of w p.from.0 p.to.0 ≡ w = ap bare (all_of w d) ∙ reference_bare w (reference_told r judged z) in
       resolves h k (uri_told b e y) (reference_told r judged z) (subst (λ (x : List ℕ). Fitted out (resolved base x) o) q t)

@@ -13,7 +13,7 @@ ghost use Rattle.bare.specs.Bare.{bare_of};
 use answers::length_answer::LengthAnswer;
 use answers::{LIMIT, Refusal};
 use judging::is_uri;
-use kinds::{Place, Span};
+use kinds::Span;
 use reference_scan::is_reference;
 use routes::{measure, put_result};
 use routing::route;
@@ -49,10 +49,7 @@ pub fn resolve(reference: &[u8], base: &[u8], out: &mut [u8]) -> LengthAnswer
     if base.len() > LIMIT {
         return Err(Refusal::TooLong);
     }
-    let part = Span {
-        from: Place(0),
-        to: Place(end),
-    };
+    let part = Span::up_to(end);
     let right_base = is_uri(base);
     let right = is_reference(reference, part);
     if !right_base {

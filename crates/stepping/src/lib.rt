@@ -20,7 +20,7 @@ use kinds::{PackNumber, Span};
 use lent::Table;
 use octets::editions::Edition;
 use paces::Way;
-use pack_index::places_at;
+use pack_index::{Packs, places_at};
 use target_steps::target_pack;
 
 // Where the target of the link followed that way stands, or none if no link is.
@@ -37,29 +37,25 @@ fn followed(t: &Table, way: Way) -> Option<Span>
 
 // The pack that a step that way leads to, or why it leads to none: from a pack whose Link value was read into these tables.
 fn step_along(
-    s: &[u8],
-    index: &[usize],
-    count: usize,
+    p: &Packs,
     uri: &[u8],
     t: &Table,
     way: Way,
     work: &mut [u8],
 ) -> Result<PackNumber, End>
-    requires stands { Stands s.now index.now count × Free (92 ∷ []) uri.now × (limit ≤ length work.old) }
+    requires stands { Stands p.now.text.now p.now.index.now p.now.count × Free (92 ∷ []) uri.now × (limit ≤ length work.old) }
     requires table_read { TableRead t.now.text.now t.now.links.now t.now.params.now t.now.counts.links t.now.counts.params }
-    ensures { StepsOn s.now index.now count uri.now t.now.text.now (relation_on way) result }
+    ensures { StepsOn p.now.text.now p.now.index.now p.now.count uri.now t.now.text.now (relation_on way) result }
 {
     let Some(target) = followed(t, way) else {
         return Err(End::NoLink);
     };
-    target_pack(s, index, count, uri, t.text, target, work)
+    target_pack(p, uri, t.text, target, work)
 }
 
 // The same, from the pack that has this URI and this Link value.
 fn step_on(
-    s: &[u8],
-    index: &[usize],
-    count: usize,
+    p: &Packs,
     uri: &[u8],
     value: &[u8],
     way: Way,
@@ -67,9 +63,9 @@ fn step_on(
     params: &mut [usize],
     work: &mut [u8],
 ) -> Result<PackNumber, End>
-    requires stands { Stands s.now index.now count × Free (92 ∷ []) uri.now × (limit ≤ length work.old) }
+    requires stands { Stands p.now.text.now p.now.index.now p.now.count × Free (92 ∷ []) uri.now × (limit ≤ length work.old) }
     requires accepted { Accepted value.now (length links.old) (length params.old) }
-    ensures { StepsOn s.now index.now count uri.now value.now (relation_on way) result }
+    ensures { StepsOn p.now.text.now p.now.index.now p.now.count uri.now value.now (relation_on way) result }
 {
     let answer = reader::read_in(Edition::Rfc8288, value, links, params);
     match answer {
@@ -81,40 +77,29 @@ fn step_on(
                 params,
                 counts,
             };
-            step_along(s, index, count, uri, &t, way, work)
+            step_along(p, uri, &t, way, work)
         }
     }
 }
 
 // The pack that a step that way from a pack leads to, or why it leads to none.
 pub fn step(
-    s: &[u8],
-    index: &[usize],
-    count: usize,
+    p: &Packs,
     pack: PackNumber,
     way: Way,
     links: &mut [usize],
     params: &mut [usize],
     work: &mut [u8],
 ) -> Result<PackNumber, End>
-    requires { KnownPacks s.now index.now count (length links.old) (length params.old) × (pack.0 < count) × (limit ≤ length work.old) }
-    ensures { StepsFrom s.now index.now count (length links.old) (length params.old) (relation_on way)
+    requires { KnownPacks p.now.text.now p.now.index.now p.now.count (length links.old) (length params.old) × (pack.0 < p.now.count)
+        × (limit ≤ length work.old) }
+    ensures { StepsFrom p.now.text.now p.now.index.now p.now.count (length links.old) (length params.old) (relation_on way)
         pack.0 result }
 {
-    let p = places_at(index, pack);
-    let f = p.from.0;
-    let t = p.tab.0;
+    let places = places_at(p.index, pack);
+    let f = places.from.0;
+    let t = places.tab.0;
     let v = t + 1;
-    let e = p.end.0;
-    step_on(
-        s,
-        index,
-        count,
-        &s[f..t],
-        &s[v..e],
-        way,
-        links,
-        params,
-        work,
-    )
+    let e = places.end.0;
+    step_on(p, &p.text[f..t], &p.text[v..e], way, links, params, work)
 }

@@ -11,23 +11,21 @@ ghost use Rattle.target_steps.specs.Stepped.{Stands, LeadsTo};
 use answers::LIMIT;
 use answers::walk_answer::End;
 use kinds::{PackNumber, Span};
-use pack_index::find;
+use pack_index::Packs;
 use resolving::put_resolved;
 
 // The pack that a target leads to, resolved on the URI of another, or why there is none.
 pub fn target_pack(
-    s: &[u8],
-    index: &[usize],
-    count: usize,
+    p: &Packs,
     uri: &[u8],
     value: &[u8],
     target: Span,
     work: &mut [u8],
 ) -> Result<PackNumber, End>
-    requires stands { Stands s.now index.now count × Free (92 ∷ []) uri.now × (limit ≤ length work.old) }
+    requires stands { Stands p.now.text.now p.now.index.now p.now.count × Free (92 ∷ []) uri.now × (limit ≤ length work.old) }
     requires in_text { InText value.now target.from.0 target.to.0 × ReferenceAt value.now target.from.0 target.to.0
         × (length value.now ≤ limit) }
-    ensures { LeadsTo s.now index.now count uri.now value.now target.from.0 target.to.0 result }
+    ensures { LeadsTo p.now.text.now p.now.index.now p.now.count uri.now value.now target.from.0 target.to.0 result }
 {
     if uri.len() > LIMIT {
         return Err(End::NoTarget);
@@ -35,5 +33,5 @@ pub fn target_pack(
     let Ok(n) = put_resolved(uri, value, target, work) else {
         return Err(End::NoTarget);
     };
-    find(s, index, count, &work[..n]).ok_or(End::NoPack)
+    p.find(&work[..n]).ok_or(End::NoPack)
 }

@@ -103,10 +103,7 @@ pub fn decode(value: &[u8], out: &mut [u8]) -> LengthAnswer
     if end > LIMIT {
         return Err(Refusal::TooLong);
     }
-    let part = Span {
-        from: Place(0),
-        to: Place(end),
-    };
+    let part = Span::up_to(end);
     let judged = judge(value, part, Reading::AsItStands);
     match judged {
         None => Err(Refusal::BadExtended),

@@ -12,7 +12,7 @@ use answers::walk_answer::WalkAnswer;
 use catalogue_check::{PACKS, check};
 use kinds::PackNumber;
 use paces::{Way, paces_of};
-use pack_index::PACK_SLOTS;
+use pack_index::{PACK_SLOTS, Packs};
 use pack_walk::walk_from;
 
 // Walks over a text, if it is a catalogue. It is checked once. The index is made of a number that the compiler doesn't know: of zeros it
@@ -32,9 +32,12 @@ fn walk_over(
     let any = catalogue.len();
     let mut index = [any; PACKS * PACK_SLOTS];
     let count = check(catalogue, links, params, &mut index).ok_or(Refusal::BadCatalogue)?;
-    walk_from(
-        catalogue, &index, count, start, way, steps, links, params, work,
-    )
+    let p = Packs {
+        text: catalogue,
+        index: &index,
+        count,
+    };
+    walk_from(&p, start, way, steps, links, params, work)
 }
 
 // Walks so many steps over a catalogue, from the pack numbered `start`.

@@ -11,7 +11,9 @@ pub line_at-requires : goal.line_at-requires
 line_at-requires c = c.loop-at.invariant.inside
 
 pub returns-in_default : goal.returns-in_default
-returns-in_default c = no_line c.loop-at.invariant c.line_at.ensures c.in_default.is
+returns-in_default c =
+    let e = c.up_to-nothing.ensures in
+    rw (e.0, e.1) (no_line c.loop-at.invariant c.line_at.ensures c.in_default.is)
 
 pub returns-then-left-eq0 : goal.returns-then-left-eq0
 returns-then-left-eq0 c = found c.loop-at.invariant c.line_at.ensures c.in-Some.is c.if-left-eq0.true
@@ -28,4 +30,6 @@ pub loop-at-preserved : goal.loop-at-preserved
 loop-at-preserved c = on c.loop-at.invariant c.line_at.ensures c.in-Some.is c.if-left-eq0.false
 
 pub returns : goal.returns
-returns c = at_its_end c.loop-at.invariant (omega arith)
+returns c =
+    let e = c.up_to-nothing.ensures in
+    rw (e.0, e.1) (at_its_end c.loop-at.invariant (omega arith))

@@ -30,11 +30,12 @@ first_of-anchor-requires c =
 
 pub put_resolved-requires : goal.put_resolved-requires
 put_resolved-requires c =
+    let e = c.up_to.ensures in
     let is-uri' = c.is_uri in
     let given = c.args in
     let b = uri_told is-uri'.result is-uri'.ensures (not-false is-uri'.result c.if-not-is_uri.false-raw) in
     record {
-      in_text = (record { ordered = omega arith; inside = omega arith }, c.requires.usable.short);
+      in_text = (record { ordered = omega (arith, e.0, e.1); inside = omega (arith, e.1) }, c.requires.usable.short);
       free = (uri_free given.base.now b, c.requires.base_len_bound);
     }
 
@@ -60,7 +61,7 @@ returns-in-None c =
     let is-uri' = c.is_uri in
     let if1' = c.if-link-t in
     let b = uri_told is-uri'.result is-uri'.ensures (not-false is-uri'.result c.if-not-is_uri.false-raw) in
-    untold c.requires.usable if1'.false link-at'.ensures first-of'.result first-of'.ensures c.in-None.is b
+    untold c.requires.usable if1'.false link-at'.ensures first-of'.result first-of'.ensures c.up_to.ensures c.in-None.is b
     put-resolved'.ensures
 
 pub returns-in-Some : goal.returns-in-Some

@@ -18,7 +18,8 @@ returns-then-not-right_base c =
     let if2' = c.if-base-gt-LIMIT in
     let if1' = c.if-end-gt-LIMIT in
     let r = c.is_reference-right in
-    wrong_base _ _ _ if1'.false if2'.false is-uri'.result r.result is-uri'.ensures r.ensures
+    let e = c.up_to-part.ensures in
+    wrong_base _ _ _ if1'.false if2'.false is-uri'.result r.result is-uri'.ensures (rw (e.0, e.1) at r.ensures)
     (not-true is-uri'.result c.if-not-right_base.true-raw)
 
 pub returns-then-not-right : goal.returns-then-not-right
@@ -27,7 +28,9 @@ returns-then-not-right c =
     let is-uri' = c.is_uri-right_base in
     let if2' = c.if-base-gt-LIMIT in
     let if1' = c.if-end-gt-LIMIT in
-    wrong_reference _ _ _ if1'.false if2'.false is-uri'.result is-reference'.result is-uri'.ensures is-reference'.ensures
+    let e = c.up_to-part.ensures in
+    let judged = rw (e.0, e.1) at is-reference'.ensures in
+    wrong_reference _ _ _ if1'.false if2'.false is-uri'.result is-reference'.result is-uri'.ensures judged
     (not-false is-uri'.result c.if-not-right_base.false-raw)
     (not-true is-reference'.result c.if-not-right.true-raw)
 
@@ -38,11 +41,13 @@ put_resolved-requires c =
     let if2' = c.if-base-gt-LIMIT in
     let if1' = c.if-end-gt-LIMIT in
     let given = c.args in
+    let e = c.up_to-part.ensures in
     let f = base_free given.reference.now given.base.now given.out.now if1'.false if2'.false is-uri'.result
     is-reference'.result
-    is-uri'.ensures is-reference'.ensures (not-false is-uri'.result c.if-not-right_base.false-raw) in
+    is-uri'.ensures (rw (e.0, e.1) at is-reference'.ensures)
+    (not-false is-uri'.result c.if-not-right_base.false-raw) in
     record {
-      in_text = (record { ordered = omega arith; inside = omega arith }, if1'.false);
+      in_text = (record { ordered = omega (arith, e.0, e.1); inside = omega (arith, e.1) }, if1'.false);
       free = (f, if2'.false);
     }
 
@@ -53,6 +58,8 @@ returns c =
     let is-uri' = c.is_uri-right_base in
     let if2' = c.if-base-gt-LIMIT in
     let if1' = c.if-end-gt-LIMIT in
-    both_right _ _ _ if1'.false if2'.false is-uri'.result is-reference'.result is-uri'.ensures is-reference'.ensures
+    let e = c.up_to-part.ensures in
+    let judged = rw (e.0, e.1) at is-reference'.ensures in
+    both_right _ _ _ if1'.false if2'.false is-uri'.result is-reference'.result is-uri'.ensures judged e
     (not-false is-uri'.result c.if-not-right_base.false-raw)
     (not-false is-reference'.result c.if-not-right.false-raw) put-resolved'.ensures

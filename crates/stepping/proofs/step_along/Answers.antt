@@ -14,11 +14,11 @@ target_pack-requires c =
 pub returns-in_default : goal.returns-in_default
 returns-in_default c =
     let g = c.args in
-    no_link_on g.s.now g.index.now g.count g.uri.now g.t.now.text.now (relation_on g.way) c.requires.table_read
+    no_link_on g.p.now.text.now g.p.now.index.now g.p.now.count g.uri.now g.t.now.text.now (relation_on g.way) c.requires.table_read
     (nowhere_told c.followed.ensures c.in_default.is)
 
 pub returns : goal.returns
 returns c =
     let g = c.args in
-    target_on_lem g.s.now g.index.now g.count g.uri.now g.t.now.text.now (relation_on g.way) c.requires.table_read c.target_pack.result
+    target_on_lem g.p.now.text.now g.p.now.index.now g.p.now.count g.uri.now g.t.now.text.now (relation_on g.way) c.requires.table_read c.target_pack.result
     (target_told c.followed.ensures c.in-Some.is) c.target_pack.ensures

@@ -3,7 +3,7 @@ use Prim.Native.Nat.{◌-◌}
 use native.Mathlib.Omega.{arith}
 use mathlib.Core.Path.{refl, ◌∙◌}
 use Rattle.pack_index.proofs.Finding.{begin, placed_here, compared, on}
-use Rattle.pack_index.proofs.find.Goals as goal
+use Rattle.pack_index.proofs.Packs.find.Goals as goal
 
 pub loop-i-init : goal.loop-i-init
 loop-i-init c = begin refl
