@@ -82,6 +82,14 @@ impl LinkNumber {
     {
         LinkNumber(self.0 + 1)
     }
+
+    // The number of the link n further on.
+    pub fn plus(self, n: usize) -> LinkNumber
+        requires { self.0 + n < 2 ^ 64 }
+        ensures { result.0 ≡ self.0 + n }
+    {
+        LinkNumber(self.0 + n)
+    }
 }
 
 impl ParamNumber {
@@ -106,6 +114,13 @@ impl ParamNumber {
         ensures { result.0 ≡ self.0 + n }
     {
         ParamNumber(self.0 + n)
+    }
+
+    // How many parameters stand from this one up to the end: none where the end isn't behind it.
+    pub fn up_to(self, end: ParamNumber) -> usize
+        ensures { result ≡ end.0 - self.0 }
+    {
+        end.0.saturating_sub(self.0)
     }
 }
 

@@ -28,9 +28,11 @@ fn are_linked(text: &[u8], links: &[usize], counts: Counts) -> bool
     requires { counts.links ≤ link_room_of links.now }
     ensures { Decides result (Linked text.now links.now counts.links counts.params) }
 {
+    let first_link = LinkNumber::first();
     let mut next = ParamNumber::first();
     for i in 0..counts.links {
-        let l = link_at(links, LinkNumber(i));
+        let link = first_link.plus(i);
+        let l = link_at(links, link);
         let left = counts.params - next.0;
         if l.first.0 != next.0 || l.count > left || !is_good_target(text, l.target) {
             return false;
@@ -45,8 +47,10 @@ fn are_all_good(edition: Edition, t: &Table) -> bool
     requires { Fits t.now.links.now t.now.params.now t.now.counts.links t.now.counts.params }
     ensures { Decides result (EachParams (further edition) t.now.text.now t.now.links.now t.now.params.now t.now.counts.links) }
 {
+    let first = LinkNumber::first();
     for i in 0..t.counts.links {
-        let l = link_at(t.links, LinkNumber(i));
+        let link = first.plus(i);
+        let l = link_at(t.links, link);
         if !are_good_params(edition, t.text, t.params, l.first, l.count) {
             return false;
         }
