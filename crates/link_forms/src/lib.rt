@@ -52,9 +52,11 @@ pub fn put_links(t: &Table, out: &mut [u8]) -> OutPlace
     ensures { Put out.old out.new 0 result.0
         (written_form (lent t.now)) }
 {
+    let first = LinkNumber::first();
     let mut at = OutPlace::start();
     for i in 0..t.counts.links {
-        let l = records::link_at(t.links, LinkNumber(i));
+        let link = first.plus(i);
+        let l = records::link_at(t.links, link);
         let behind = put_parting(out, at, i == 0);
         at = put_link(t.text, t.params, l, out, behind);
     }

@@ -50,11 +50,12 @@ fn measure_params<const EXACT: bool>(
     ensures { Bounds EXACT (before + length (params_left text.now params.now end.0 first.0)) result }
 {
     let mut n = before;
-    for p in first.0..end.0 {
+    for k in 0..first.up_to(end) {
         if n > LIMIT {
             return n;
         }
-        let param = records::parts_at(params, ParamNumber(p));
+        let p = first.plus(k);
+        let param = records::parts_at(params, p);
         n += param.name.len() + measure_value::<EXACT>(text, param) + 3;
     }
     n
@@ -74,12 +75,14 @@ fn measure_form<const EXACT: bool>(t: &Table) -> usize
     ensures { Bounds EXACT
         (length (written_form (lent t.now))) result }
 {
+    let first_link = LinkNumber::first();
     let mut n = 0;
     for i in 0..t.counts.links {
         if n > LIMIT {
             return n;
         }
-        let l = records::link_at(t.links, LinkNumber(i));
+        let link = first_link.plus(i);
+        let l = records::link_at(t.links, link);
         let parting = parting_len(i == 0);
         let target = l.target.len() + 2;
         let first = l.first;

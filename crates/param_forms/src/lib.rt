@@ -72,8 +72,9 @@ pub fn put_params(
         (params_left text.now params.now end.0 first.0) }
 {
     let mut to = at;
-    for p in first.0..end.0 {
-        let param = records::parts_at(params, ParamNumber(p));
+    for k in 0..first.up_to(end) {
+        let p = first.plus(k);
+        let param = records::parts_at(params, p);
         to = put_param(text, param, out, to);
     }
     to

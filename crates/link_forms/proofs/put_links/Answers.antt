@@ -11,6 +11,7 @@ use Rattle.tables.proofs.InGood.{link_slots}
 use Rattle.shape.specs.Forms.{parting, link_form, links_left}
 use Rattle.shape.proofs.LeftToWrite.{links_next, links_end, whole_form}
 use Rattle.shape.proofs.GoodRecords.{target_span, good_run}
+use Rattle.kinds.proofs.Counted.{from_first}
 use Rattle.kinds.proofs.Putting.{begin, several, room, onto}
 use Rattle.putting.proofs.PutUpTo.{next, ended}
 use borrow.Author.Rules.{rules}
@@ -28,17 +29,18 @@ loop-i-init c =
 
 pub link_at-l-requires : goal.link_at-l-requires
 link_at-l-requires c =
-    link_slots c.requires.usable.good c.loop-i-test.true
+    rw (from_first c.first-first.ensures c.plus-link.ensures) (link_slots c.requires.usable.good c.loop-i-test.true)
 
 pub put_parting-behind-requires : goal.put_parting-behind-requires
 put_parting-behind-requires c =
     let link-at' = c.link_at-l in
+    let is = rw (from_first c.first-first.ensures c.plus-link.ensures) at link-at'.ensures in
     let loop' = c.loop-i in
     let text = c.args.t.now.text.now in
     let links = c.args.t.now.links.now in
     let params = c.args.t.now.params.now in
     let n = c.args.t.now.counts.links in
-    let w = onto (links_next text links params n c.loop-i-test.true link-at'.ensures) loop'.invariant.put in
+    let w = onto (links_next text links params n c.loop-i-test.true is) loop'.invariant.put in
     let form = link_form text (to_link params link-at'.result) in
     room (parting (eqb loop'.i 0)) (form ++ links_left text links params n (suc loop'.i)) w
 
@@ -46,17 +48,18 @@ pub put_link-at-requires : goal.put_link-at-requires
 put_link-at-requires c =
     let if1' = c.loop-i-test in
     let link-at' = c.link_at-l in
+    let is = rw (from_first c.first-first.ensures c.plus-link.ensures) at link-at'.ensures in
     let loop' = c.loop-i in
     let text = c.args.t.now.text.now in
     let links = c.args.t.now.links.now in
     let params = c.args.t.now.params.now in
     let n = c.args.t.now.counts.links in
-    let w = onto (links_next text links params n if1'.true link-at'.ensures) loop'.invariant.put in
+    let w = onto (links_next text links params n if1'.true is) loop'.invariant.put in
     let form = link_form text (to_link params link-at'.result) in
     let left = links_left text links params n (suc loop'.i) in
     let w1 = several {left = form ++ left} w c.put_parting-behind.ensures in record {
-      in_text = target_span c.requires.usable.good if1'.true link-at'.ensures;
-      good_run = good_run c.requires.usable.good if1'.true link-at'.ensures;
+      in_text = target_span c.requires.usable.good if1'.true is;
+      good_run = good_run c.requires.usable.good if1'.true is;
       l_in_bounds = room form left w1;
     }
 
@@ -64,13 +67,14 @@ pub loop-i-preserved : goal.loop-i-preserved
 loop-i-preserved c =
     let if1' = c.loop-i-test in
     let link-at' = c.link_at-l in
+    let is = rw (from_first c.first-first.ensures c.plus-link.ensures) at link-at'.ensures in
     let loop' = c.loop-i in
     let put-parting' = c.put_parting-behind in
     let text = c.args.t.now.text.now in
     let links = c.args.t.now.links.now in
     let params = c.args.t.now.params.now in
     let n = c.args.t.now.counts.links in
-    let w = onto (links_next text links params n if1'.true link-at'.ensures) loop'.invariant.put in
+    let w = onto (links_next text links params n if1'.true is) loop'.invariant.put in
     let form = link_form text (to_link params link-at'.result) in
     let left = links_left text links params n (suc loop'.i) in
     let w1 = several {left = form ++ left} w put-parting'.ensures in

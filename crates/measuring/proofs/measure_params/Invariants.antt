@@ -7,6 +7,6 @@ use Rattle.shape.specs.Forms.{params_left}
 use Rattle.measuring.proofs.MeasuredUpTo.{ParamsMeasured}
 use Rattle.measuring.proofs.measure_params.Given as goal
 
-abbrev pub invariant-loop-p : goal.invariant-loop-p
-invariant-loop-p g l =
-    ParamsMeasured (not (eqb g.row.EXACT 0)) l.text l.params (l.before + length (params_left l.text l.params l.fn.end.0 l.initial.p)) l.fn.end.0 l.n l.p
+abbrev pub invariant-loop-k : goal.invariant-loop-k
+invariant-loop-k g l =
+    ParamsMeasured (not (eqb g.row.EXACT 0)) l.text l.params (l.before + length (params_left l.text l.params l.fn.end.0 l.first.0)) l.fn.end.0 l.n (l.first.0 + l.k)
