@@ -60,8 +60,9 @@ pub fn first_followed(t: &Table, relation: &[u8]) -> Option<Span>
     ensures { IsFollowed (lent t.now)
         relation.now result }
 {
+    let first = LinkNumber::first();
     for i in 0..t.counts.links {
-        let link = LinkNumber(i);
+        let link = first.plus(i);
         if is_followed(t, link, relation) {
             return Some(records::link_at(t.links, link).target);
         }

@@ -40,8 +40,9 @@ fn put_table(links: &[usize], params: &[usize], counts: Counts)
     requires { Held links.now params.now counts.links counts.params }
 {
     put(lines::counts_line(counts));
+    let first = LinkNumber::first();
     for i in 0..counts.links {
-        let n = LinkNumber(i);
+        let n = first.plus(i);
         let l = records::link_at(links, n);
         put(lines::link_line(n, l));
         put_params(params, l);
