@@ -40,8 +40,9 @@ fn put_links(
     requires targets_held { TargetsHeld t.now.text.now t.now.links.now t.now.counts.links }
     requires context_in_bounds { length target.old + length context.old + 160 ≤ length line.old }
 {
+    let first = LinkNumber::first();
     for i in 0..t.counts.links {
-        let link = LinkNumber(i);
+        let link = first.plus(i);
         let n = put_link(edition, t, base, link, target, context, line);
         io::write_all(1, &line[..n]);
     }

@@ -33,8 +33,10 @@ pub fn all_related(t: &Table) -> bool
     requires { Usable Rfc5988 (lent t.now) }
     ensures { TellsRelated (lent t.now) result }
 {
+    let first = LinkNumber::first();
     for i in 0..t.counts.links {
-        let l = records::link_at(t.links, LinkNumber(i));
+        let link = first.plus(i);
+        let l = records::link_at(t.links, link);
         if !is_related(t.text, t.params, l) {
             return false;
         }
