@@ -1,0 +1,2 @@
+-- What the crate `putting` means by its words.
+pub mod Spelt
