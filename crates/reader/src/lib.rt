@@ -10,6 +10,24 @@ use answers::read_answer::ReadAnswer;
 use answers::{LIMIT, Refusal};
 use octets::editions::{Edition, edition_of};
 use reading::read_noting;
+use records::{LINK_SLOTS, PARAM_SLOTS};
+
+// The slots of notes for so many links and so many parameters: those of a short header, of longer ones, and the most that any gets.
+const SHORT_LINKS: usize = 4 * LINK_SLOTS;
+
+const SHORT_PARAMS: usize = 8 * PARAM_SLOTS;
+
+const MIDDLE_LINKS: usize = 16 * LINK_SLOTS;
+
+const MIDDLE_PARAMS: usize = 32 * PARAM_SLOTS;
+
+const LONG_LINKS: usize = 24 * LINK_SLOTS;
+
+const LONG_PARAMS: usize = 64 * PARAM_SLOTS;
+
+const MOST_LINKS: usize = 160 * LINK_SLOTS;
+
+const MOST_PARAMS: usize = 320 * PARAM_SLOTS;
 
 // With notes of so many slots. Each number of slots has a bound, since an array that is lent must be known to fit the memory. Notes are made
 // of a number that the compiler doesn't know: of zeros it would make a call of the C library.
@@ -21,8 +39,8 @@ fn with_notes<const LINKS: usize, const PARAMS: usize>(
     params: &mut [usize],
 ) -> ReadAnswer
     requires short { length header.now ≤ limit }
-    requires few_links { LINKS ≤ 640 }
-    requires few_params { PARAMS ≤ 1920 }
+    requires few_links { LINKS ≤ MOST_LINKS }
+    requires few_params { PARAMS ≤ MOST_PARAMS }
     ensures { ReadIn edition header.now links.old params.old
         (read_out (read_numbers result) links.new params.new) }
 {
@@ -48,19 +66,15 @@ pub fn read_in(
     }
     let any = (n % 65536) as u16;
     if n <= 128 {
-        // 4 links and 8 parameters
-        return with_notes::<16, 48>(any, edition, header, links, params);
+        return with_notes::<SHORT_LINKS, SHORT_PARAMS>(any, edition, header, links, params);
     }
     if n <= 512 {
-        // 16 links and 32 parameters
-        return with_notes::<64, 192>(any, edition, header, links, params);
+        return with_notes::<MIDDLE_LINKS, MIDDLE_PARAMS>(any, edition, header, links, params);
     }
     if n <= 1024 {
-        // 24 links and 64 parameters
-        return with_notes::<96, 384>(any, edition, header, links, params);
+        return with_notes::<LONG_LINKS, LONG_PARAMS>(any, edition, header, links, params);
     }
-    // 160 links and 320 parameters
-    with_notes::<640, 1920>(any, edition, header, links, params)
+    with_notes::<MOST_LINKS, MOST_PARAMS>(any, edition, header, links, params)
 }
 
 // In the edition of this number, if there is one.
