@@ -67,17 +67,20 @@ impl Cursor {
         }
     }
 
-    // Past a run of octets of a set.
+    // Past a run of octets of a set. The place is counted beside the loop, so that both ways out of it have the same one: with two, the
+    // compiler counts several numbers up in each turn.
     fn past(self, s: &[u8], set: Set) -> Cursor
         requires { self.at.0 ≤ length s.now }
         ensures { Passed (is_in set) s.now self.at.0 result.at.0 }
     {
+        let mut end = self.at.0;
         for i in self.at.0..s.len() {
             if !is_in(set, s[i]) {
-                return Cursor { at: Place(i) };
+                return Cursor { at: Place(end) };
             }
+            end += 1;
         }
-        Cursor { at: Place(s.len()) }
+        Cursor { at: Place(end) }
     }
 
     // Past a run of SP and HTAB.

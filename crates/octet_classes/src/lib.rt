@@ -25,13 +25,23 @@ pub enum Set {
     Ptoken,
 }
 
-static TABLE: [u8; 256] = CLASSES;
+// The table behind another number: of one that is a static by itself the compiler tells blanks by two comparisons, each with a branch, and
+// in a run of both kinds of them these are guessed wrong at every second octet.
+struct Numbered {
+    before: u64,
+    numbers: [u8; 256],
+}
+
+static TABLE: Numbered = Numbered {
+    before: 0,
+    numbers: CLASSES,
+};
 
 // The table.
 pub fn table() -> &'static [u8; 256]
     ensures { Classes result.now }
 {
-    &TABLE
+    &TABLE.numbers
 }
 
 // Whether the octet is in the set.
