@@ -45,7 +45,7 @@ fn context_of(edition: usize, t: &Table, link: LinkNumber) -> ContextAnswer
 }
 
 // The context itself: a part of the text, or of the base. Refused, it is the base's first zero octets.
-pub fn context<'a>(edition: usize, t: &Table<'a>, base: &'a [u8], link: LinkNumber) -> &'a [u8]
+pub fn context<'a>(edition: usize, t: &Table<'a, '_>, base: &'a [u8], link: LinkNumber) -> &'a [u8]
     ensures { HandsBack edition (lent t.now) link.0 t.now.text base.entry result }
 {
     let answer = context_of(edition, t, link);

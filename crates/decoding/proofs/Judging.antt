@@ -32,16 +32,14 @@ uncounted : (o : Option (List ℕ)) → none ≡ measured 0 nothing o → (v : L
 uncounted o e v q f =
     none_some (e ∙ ap (measured 0 nothing) q ∙ ap (λ (b : Bool). cond b (some (0 + length v)) none) (awaited_exact.all v f))
 
--- what is left of w behind the language, where v is left behind the charset
-pub chars_there : (v w : List ℕ) {o : Option (List ℕ)} → some v ≡ behind_folded charset_part w → o ≡ behind_language v → o ≡ value_chars w
+-- what is left of w behind the language, where v tells what is left behind the charset
+pub chars_there : (v : Option (List ℕ)) (w : List ℕ) {o : Option (List ℕ)} → v ≡ behind_folded charset_part w → o ≡ bind v behind_language
+    → o ≡ value_chars w
 chars_there v w h q = q ∙ ap (λ (z : Option (List ℕ)). bind z behind_language) h
 
 module _ {b : Reading} {s : List ℕ} {e k : ℕ} where
   pub no_chars : none ≡ value_chars (seen b s e k) → IsWrong b s e k
   no_chars h = record { wrong = λ v x. none_some (h ∙ (extended_chars x).0) }
-
-  pub no_charset : none ≡ behind_folded charset_part (seen b s e k) → IsWrong b s e k
-  no_charset h = no_chars (ap (λ (z : Option (List ℕ)). bind z behind_language) h)
 
   -- the characters begin at place p
   module _ (p : ℕ) (h : some (seen b s e p) ≡ value_chars (seen b s e k)) where

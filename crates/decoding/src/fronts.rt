@@ -1,7 +1,7 @@
 // The parts of an extended value before its characters: the charset, the language, and their quotes.
 ghost use Rattle.std.specs.Prelude.{◌≡◌, [], ◌∷◌, ◌≤◌, length};
 ghost use Rattle.extended.specs.Value.{is_language};
-ghost use Rattle.extended.specs.Decoded.{behind_folded, charset_part, behind_language};
+ghost use Rattle.extended.specs.Decoded.{bind, behind_folded, charset_part, behind_language};
 ghost use Rattle.units.specs.Seen.{seen};
 ghost use Rattle.decoding.specs.Sight.{sight};
 
@@ -41,7 +41,7 @@ fn is_language(c: u8) -> bool
 }
 
 // The place behind a language that begins at k, and its quote.
-pub fn past_language(s: &[u8], k: Place, e: Place, how: Reading) -> Option<Place>
+fn language_from(s: &[u8], k: Place, e: Place, how: Reading) -> Option<Place>
     requires { e.0 ≤ length s.now }
     ensures { sight how s.now e.0 result ≡ behind_language (seen how s.now e.0 k.0) }
 {
@@ -56,4 +56,12 @@ pub fn past_language(s: &[u8], k: Place, e: Place, how: Reading) -> Option<Place
         at = n;
     }
     None
+}
+
+// The place behind the language that begins where `from` tells, and its quote.
+pub fn past_language(s: &[u8], from: Option<Place>, e: Place, how: Reading) -> Option<Place>
+    requires { e.0 ≤ length s.now }
+    ensures { sight how s.now e.0 result ≡ bind (sight how s.now e.0 from) behind_language }
+{
+    language_from(s, from?, e, how)
 }

@@ -26,7 +26,7 @@ pub fn judge(s: &[u8], part: Span, how: Reading) -> Option<Chars>
     ensures { IsJudged how s.now part.to.0 part.from.0 result }
 {
     let e = part.to;
-    let language = past_charset(s, part.from, e, how)?;
+    let language = past_charset(s, part.from, e, how);
     let chars = past_language(s, language, e, how)?;
     let count = measure(s, chars, e, how)?;
     Some(Chars {

@@ -1,6 +1,6 @@
 // The class number of each octet. From the right its bits say: token, plain in a quoted string, escapable, target, hex, of the older
-// edition alone, blank. The eighth is set in every second number, and says nothing: where no two neighbours are equal, the compiler
-// writes the table sixteen octets at a time, and else run by run, which takes twice as many stores.
+// edition alone, blank. The eighth is set in every second number, and says nothing: it is left from when each call wrote the
+// table out, which took fewer stores where no two neighbours were equal.
 pub const CLASSES: [u8; 256] = [
     0b0000_0000, // 0
     0b1000_0000, // 1

@@ -1,20 +1,16 @@
 -- The fronts lead to the characters, and these are counted.
-use Rattle.decoding.proofs.Judging.{no_charset, no_chars, chars_there, unfit, fit}
+use Rattle.decoding.proofs.Judging.{no_chars, chars_there, unfit, fit}
 use Rattle.decoding.proofs.judge.Goals as goal
-
-pub returns-in_err-language : goal.returns-in_err-language
-returns-in_err-language c =
-    rw c.from_residual.ensures (no_charset c.in_err-language.ensures)
 
 pub returns-in_err-chars : goal.returns-in_err-chars
 returns-in_err-chars c =
-    rw c.from_residual-in_err-chars.ensures (no_chars (chars_there _ _ c.in_ok-language.ensures c.in_err-chars.ensures))
+    rw c.from_residual.ensures (no_chars (chars_there _ _ c.past_charset-language.ensures c.in_err-chars.ensures))
 
 pub returns-in_err-count : goal.returns-in_err-count
 returns-in_err-count c =
     rw c.from_residual-in_err-count.ensures
-    (unfit _ (chars_there _ _ c.in_ok-language.ensures c.in_ok-chars.ensures) c.in_err-count.ensures)
+    (unfit _ (chars_there _ _ c.past_charset-language.ensures c.in_ok-chars.ensures) c.in_err-count.ensures)
 
 pub returns : goal.returns
 returns c =
-    fit _ (chars_there _ _ c.in_ok-language.ensures c.in_ok-chars.ensures) c.in_ok-count.ensures
+    fit _ (chars_there _ _ c.past_charset-language.ensures c.in_ok-chars.ensures) c.in_ok-count.ensures

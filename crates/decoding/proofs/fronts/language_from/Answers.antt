@@ -2,7 +2,7 @@
 use native.Mathlib.Omega.{arith}
 use mathlib.Core.Path.{refl, sym, ◌∙◌}
 use Rattle.decoding.proofs.BehindFront.{no_language, language_ends, language_on, no_language_octet}
-use Rattle.decoding.proofs.fronts.past_language.Goals as goal
+use Rattle.decoding.proofs.fronts.language_from.Goals as goal
 
 pub loop-c-init : goal.loop-c-init
 loop-c-init c = refl
