@@ -9,17 +9,19 @@ ghost use Rattle.bare.specs.Bare.{bare_of, Past};
 
 use kinds::{OutPlace, Place, Span};
 
-// Where the first octet other than a backslash stands, or `to`.
+// Where the first octet other than a backslash stands, or `to`. The place is moved on beside the loop, so that both ways out have the same.
 pub fn past(s: &[u8], from: Place, to: Place) -> Place
     requires { InText s.now from.0 to.0 }
     ensures { Past s.now from.0 to.0 result.0 }
 {
+    let mut end = from;
     for i in from.0..to.0 {
         if s[i] != b'\\' {
-            return Place(i);
+            return end;
         }
+        end = end.next();
     }
-    to
+    end
 }
 
 // How many octets the part has without its backslashes.
