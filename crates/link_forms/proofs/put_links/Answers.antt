@@ -29,7 +29,7 @@ loop-i-init c =
 
 pub link_at-l-requires : goal.link_at-l-requires
 link_at-l-requires c =
-    rw (from_first c.first-first.ensures c.plus-link.ensures) (link_slots c.requires.usable.good c.loop-i-test.true)
+    omega (arith, link_slots c.requires.usable.good c.loop-i-test.true, c.first-first.ensures, c.plus-link.ensures)
 
 pub put_parting-behind-requires : goal.put_parting-behind-requires
 put_parting-behind-requires c =
