@@ -44,5 +44,5 @@ module _ {s : List ℕ} {a e k : ℕ} (p : Passing s a e k) where
   passed n = record { from = p.from; to = p.to; same = p.same; nothing = p.nothing; octet = n }
 
   -- up to the part's end
-  pub all_passed : e ≤ k → Past s a e k
-  all_passed h = passed (λ l. absurd (omega arith))
+  pub all_passed : e ≤ k → Past s a e e
+  all_passed h = let q : k ≡ e = omega (arith, p.to) in rw q at (passed (λ l. absurd (omega arith)))

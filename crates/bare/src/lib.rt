@@ -9,19 +9,17 @@ ghost use Rattle.bare.specs.Bare.{bare_of, Past};
 
 use kinds::{OutPlace, Place, Span};
 
-// Where the first octet other than a backslash stands, or `to`. The place is moved on beside the loop, so that both ways out have the same.
+// Where the first octet other than a backslash stands, or `to`.
 pub fn past(s: &[u8], from: Place, to: Place) -> Place
     requires { InText s.now from.0 to.0 }
     ensures { Past s.now from.0 to.0 result.0 }
 {
-    let mut end = from;
     for i in from.0..to.0 {
         if s[i] != b'\\' {
-            return end;
+            return Place(i);
         }
-        end = end.next();
     }
-    end
+    to
 }
 
 // How many octets the part has without its backslashes.

@@ -55,8 +55,10 @@ module _ {cs s : List ℕ} {a e k : ℕ} (f : Finding cs s a e k) where
         octet = o;
       }
 
-  pub found_end : e ≤ k → Found cs s a e k
-  found_end h = found_so (rw (bare_of_none s k e h) tt) (λ q. absurd (omega arith))
+  pub found_end : e ≤ k → Found cs s a e e
+  found_end h =
+      let q : k ≡ e = omega (arith, f.inside) in
+      rw q at (found_so (rw (bare_of_none s k e h) tt) (λ l. absurd (omega arith)))
 
   pub found : k < e → e ≤ length s → one_of cs 92 ≡ false → one_of cs (get_or s k 0) ≡ true → Found cs s a e k
   found h l n o = found_so (rw (bare_of_octet s k e h l (end_octet cs (get_or s k 0) n o)) o) (λ _. o)

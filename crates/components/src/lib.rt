@@ -44,19 +44,17 @@ fn stops_at(stops: Stops, c: u8) -> bool
     }
 }
 
-// Where the first octet that ends the component stands, or `to`. The place is moved on beside the loop, so that both ways out have the same.
+// Where the first octet that ends the component stands, or `to`.
 fn find(s: &[u8], from: Place, to: Place, stops: Stops) -> Place
     requires { InText s.now from.0 to.0 }
     ensures { Found (stops_of stops) s.now from.0 to.0 result.0 }
 {
-    let mut end = from;
     for i in from.0..to.0 {
         if stops_at(stops, s[i]) {
-            return end;
+            return Place(i);
         }
-        end = end.next();
     }
-    end
+    to
 }
 
 // Whether the octet c stands at this place, and before `to`.

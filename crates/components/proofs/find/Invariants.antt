@@ -1,8 +1,7 @@
 -- No octet of the set has come before the loop's place.
-use mathlib.Core.Path.{◌≡◌}
 use Rattle.components.specs.Looks.{stops_of}
 use Rattle.components.proofs.Finding.{Finding}
 use Rattle.components.proofs.find.Given as goal
 
 abbrev pub invariant-loop-i : goal.invariant-loop-i
-invariant-loop-i l = (l.end.0 ≡ l.i) × Finding (stops_of l.stops) l.s l.fn.from.0 l.fn.to.0 l.i
+invariant-loop-i l = Finding (stops_of l.stops) l.s l.fn.from.0 l.fn.to.0 l.i
