@@ -41,6 +41,10 @@ module _ {b : Reading} {s : List ℕ} {e k : ℕ} where
   pub no_chars : none ≡ value_chars (seen b s e k) → IsWrong b s e k
   no_chars h = record { wrong = λ v x. none_some (h ∙ (extended_chars x).0) }
 
+  -- a value is wrong already where its charset is
+  pub no_charset : none ≡ behind_folded charset_part (seen b s e k) → IsWrong b s e k
+  no_charset h = no_chars (chars_there none (seen b s e k) h refl)
+
   -- the characters begin at place p
   module _ (p : ℕ) (h : some (seen b s e p) ≡ value_chars (seen b s e k)) where
     pub unfit : none ≡ measured 0 nothing (given (seen b s e p)) → IsWrong b s e k
